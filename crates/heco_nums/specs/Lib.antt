@@ -1,0 +1,5 @@
+pub mod Arithmetic
+pub mod Needs
+pub mod Presets
+pub mod Words
+pub mod formers
