@@ -72,6 +72,7 @@ pub fn centre_q(c: u64) -> i64
     }
 }
 
+#[tactic(auto, using(crate::proofs::PresetFacts::facts))]
 /// floor((q c + floor(t/2)) / t), q being 2^58: what a plaintext coefficient is in a ciphertext.
 pub fn scaled(p: &Preset, c: u32) -> u64
     requires { c < p.now.t }

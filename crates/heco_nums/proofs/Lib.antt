@@ -1,0 +1,2 @@
+pub mod PresetFacts
+pub mod Powers
