@@ -1,0 +1,17 @@
+pub mod Integers
+pub mod Sums
+pub mod Pairing
+pub mod RingLaws
+pub mod Linear
+pub mod Remainders
+pub mod PairingModulo
+pub mod Turns
+pub mod Congruence
+pub mod Reduced
+pub mod Sizes
+pub mod Powers
+pub mod SlotLaws
+pub mod RoundTrip
+pub mod Wrapping
+pub mod Rows
+pub mod Examples
