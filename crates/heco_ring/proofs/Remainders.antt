@@ -6,6 +6,7 @@ use mathlib.Core.List.{List}
 use mathlib.Core.Path.{◌≡◌, refl, sym, ap, ◌∙◌, subst}
 use native.Mathlib.Nat.{mod-lt, mul-add-mod_self_left, mod-eq_of_lt}
 use native.Mathlib.Omega.{arith}
+use Rattle.std.specs.Int.{int_rem_euclid, int_div_euclid}
 use Rattle.heco_ring.proofs.Integers.{lines, z_mul_add, z_mul_neg, z_mul_one, z_mul_zero, monomials}
 use Rattle.heco_ring.specs.Remainders.{rem, quo, Cong}
 use Rattle.heco_ring.specs.Ring.{sum_z, at, sign, times_at}
@@ -97,3 +98,14 @@ rem-mul t x y h =
 
 pub rem-mul_second : (t : ℕ) (x y : ℤ) → 0 < t → rem t (x *ℤ y) ≡ rem t (x *ℤ pos (rem t y))
 rem-mul_second t x y h = rem_cong t (x *ℤ y) (x *ℤ pos (rem t y)) h (cong_mul t x x y (pos (rem t y)) (cong_refl t x) (cong_sym t (pos (rem t y)) y (cong_self t y h)))
+
+-- the remainder and the quotient of the program's numbers
+pub rem_is : (q : ℕ) (z : ℤ) → int_rem_euclid z (pos q) ≡ pos (rem q z)
+unfolding rem
+rem_is q (pos a) = refl
+rem_is q (negsuc a) = ap pos (omega arith)
+
+pub quo_is : (q : ℕ) (z : ℤ) → int_div_euclid z (pos q) ≡ quo q z
+unfolding quo
+quo_is q (pos a) = refl
+quo_is q (negsuc a) = refl
