@@ -1,0 +1,5 @@
+pub mod Fronts
+pub mod Unique
+pub mod Advances
+pub mod SpacedSplits
+pub mod Spans

@@ -1,0 +1,3 @@
+pub mod KindFacts
+pub mod PlaceFacts
+pub mod LexemeFacts

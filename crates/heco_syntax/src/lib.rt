@@ -1,0 +1,12 @@
+//! The syntax of a source: lexemes, the tree, and the productions between them.
+#![tactic(auto)]
+
+mod first;
+mod lexeme;
+mod lexing;
+mod tree;
+
+pub use first::First;
+pub use lexeme::Lexeme;
+pub use lexing::lexemes;
+pub use tree::{Expr, Ident, Num, Param, ProdPart, SetOp, Source, Stmt, SumPart};
