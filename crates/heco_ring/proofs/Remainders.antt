@@ -7,7 +7,7 @@ use mathlib.Core.Path.{◌≡◌, refl, sym, ap, ◌∙◌, subst}
 use native.Mathlib.Nat.{mod-lt, mul-add-mod_self_left, mod-eq_of_lt}
 use native.Mathlib.Omega.{arith}
 use Rattle.std.specs.Int.{int_rem_euclid, int_div_euclid}
-use Rattle.heco_ring.proofs.Integers.{lines, z_mul_add, z_mul_neg, z_mul_one, z_mul_zero, monomials}
+use Rattle.heco_ring.proofs.Integers.{lines, z_mul_add, z_mul_neg, z_mul_one, z_mul_zero, z_mul_minus, monomials}
 use Rattle.heco_ring.specs.Remainders.{rem, quo, Cong}
 use Rattle.heco_ring.specs.Ring.{sum_z, at, sign, times_at}
 
@@ -109,3 +109,12 @@ pub quo_is : (q : ℕ) (z : ℤ) → int_div_euclid z (pos q) ≡ quo q z
 unfolding quo
 quo_is q (pos a) = refl
 quo_is q (negsuc a) = refl
+
+pub rem-neg : (t : ℕ) (x : ℤ) → 0 < t → rem t (neg_ℤ x) ≡ (t - rem t x) % t
+rem-neg t x h =
+    let r : ℕ = rem t x in
+    let c : Cong t (neg_ℤ (pos r)) (pos (t - r)) = record { by = negsuc 0; is = rw (z_mul_minus (pos t)) (down t r (rem-lt t x h)) } in
+    rem_cong t (neg_ℤ x) (pos (t - r)) h (cong_trans t (neg_ℤ x) (neg_ℤ (pos r)) (pos (t - r)) (cong_neg t x (pos r) (cong_sym t (pos r) x (cong_self t x h))) c) ∙ rem_nat t (t - r)
+  where
+    down : (t r : ℕ) → r < t → neg_ℤ (pos r) ≡ pos (t - r) +ℤ neg_ℤ (pos t)
+    down t r h = omega (arith, lines)

@@ -8,14 +8,14 @@ use native.Mathlib.Nat.{pow-suc, pow-succ', pow-zero, mod-mod}
 use native.Mathlib.Omega.{arith}
 use Rattle.std.proofs.lemmas.Nat.{pow-add, mul-mod_second, mul-mod_first}
 use Rattle.heco_ring.proofs.Integers.{z_mul_assoc, z_mul_one, z_one_mul, z_mul_minus, monomials}
-use Rattle.heco_ring.proofs.Linear.{pair_plus, pair_scale, pair_constant}
+use Rattle.heco_ring.proofs.Linear.{pair_negate, pair_plus, pair_scale, pair_constant}
 use Rattle.heco_ring.proofs.Pairing.{pair}
 use Rattle.heco_ring.proofs.PairingModulo.{FlipsMod, pair_cong, pair_twice_mod, pair_turn_mod}
 use Rattle.heco_ring.proofs.Powers.{cong_one, one_mod}
-use Rattle.heco_ring.proofs.Remainders.{rem_cong, cong_mul, cong_refl, cong_sum, cong_neg, cong_trans, cong_sym, cong_eq, rem_nat, minus_one, rem-add, rem-mul, rem-mul_second}
+use Rattle.heco_ring.proofs.Remainders.{rem_cong, cong_mul, cong_refl, cong_sum, cong_neg, cong_trans, cong_sym, cong_eq, rem_nat, minus_one, rem-add, rem-neg, rem-mul, rem-mul_second}
 use Rattle.heco_ring.proofs.Sums.{sum_ext, sum_mul, sum_mul_right}
 use Rattle.heco_ring.specs.Remainders.{rem, Cong, Same}
-use Rattle.heco_ring.specs.Ring.{sum_z, at, times, plus, scale, turn, constant}
+use Rattle.heco_ring.specs.Ring.{sum_z, at, times, plus, negate, scale, turn, constant}
 use Rattle.heco_ring.specs.Slots.{value, slot}
 
 two_more : (x k m : ℕ) → m ≡ suc (suc k) → x ^ m ≡ x * (x * x ^ k)
@@ -89,6 +89,10 @@ three_is_odd j = omega (arith, (three_odd j).1)
 pub value_plus : (n t z w : ℕ) (a b : List ℤ) → 0 < t → value n t z w (plus n a b) ≡ (value n t z w a + value n t z w b) % t
 unfolding value pair
 value_plus n t z w a b ht = let u : ℕ → ℤ = λ m. pos (z ^ (m * w)) in ap (rem t) (pair_plus n a b u) ∙ rem-add t (pair n a u) (pair n b u) ht
+
+pub value_negate : (n t z w : ℕ) (a : List ℤ) → 0 < t → value n t z w (negate n a) ≡ (t - value n t z w a) % t
+unfolding value pair
+value_negate n t z w a ht = let u : ℕ → ℤ = λ m. pos (z ^ (m * w)) in ap (rem t) (pair_negate n a u) ∙ rem-neg t (pair n a u) ht
 
 pub value_times : (n t z w : ℕ) (a b : List ℤ) → 0 < n → 0 < t → w % 2 ≡ 1 → z ^ n % t ≡ t - 1 → value n t z w (times n a b) ≡ (value n t z w a * value n t z w b) % t
 unfolding value pair

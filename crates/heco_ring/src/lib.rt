@@ -10,5 +10,6 @@ pub use ring_laws::{
 };
 pub use slot_laws::{
     decode_inverts_encode, slots_rotate, value_of_a_constant, value_of_a_multiple,
-    value_of_a_product, value_of_a_sum, value_of_a_turn, values_go_by_remainders,
+    value_of_a_negative, value_of_a_product, value_of_a_sum, value_of_a_turn,
+    values_go_by_remainders,
 };

@@ -1,6 +1,6 @@
 ghost use Rattle.std.specs.Prelude.{◌≡◌, ◌<◌, ◌+◌, ◌-◌, ◌*◌, ◌%◌, ◌^◌, ℕ, List, All, length};
 ghost use lib.IntN.{ℤ, pos, ◌*ℤ◌};
-ghost use Rattle.heco_ring.specs.Ring.{wholes, times, plus, scale, constant, turn};
+ghost use Rattle.heco_ring.specs.Ring.{wholes, times, plus, negate, scale, constant, turn};
 ghost use Rattle.heco_ring.specs.Remainders.{rem, Same};
 ghost use Rattle.heco_ring.specs.Slots.{value, slot, encode, decode, HasSlots};
 
@@ -14,6 +14,12 @@ pub fn values_go_by_remainders()
 #[tactic(auto, using(crate::proofs::SlotLaws::value_plus))]
 pub fn value_of_a_sum()
     ensures { (n t z w : ℕ) (a b : List ℤ) → 0 < t → value n t z w (plus n a b) ≡ (value n t z w a + value n t z w b) % t }
+{}
+
+/// The value of a negative is the negative of the value.
+#[tactic(auto, using(crate::proofs::SlotLaws::value_negate))]
+pub fn value_of_a_negative()
+    ensures { (n t z w : ℕ) (a : List ℤ) → 0 < t → value n t z w (negate n a) ≡ (t - value n t z w a) % t }
 {}
 
 /// The value of a product at an odd power of z is the product of the values.

@@ -1,0 +1,3 @@
+pub mod PresetSlots
+pub mod Tables
+pub mod Terms

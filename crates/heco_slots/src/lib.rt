@@ -1,0 +1,18 @@
+//! The slots of plaintexts: N numbers modulo t that sums, products and turns of a plaintext act on one by one.
+#![tactic(auto)]
+
+mod decode;
+mod encode;
+mod laws;
+mod powers;
+mod table;
+mod term;
+
+pub use laws::{
+    decode_inverts_encode, slots_of_a_constant, slots_of_a_difference, slots_of_a_multiple,
+    slots_of_a_negative, slots_of_a_product, slots_of_a_sum, slots_of_a_turn, slots_of_the_decoded,
+};
+pub use table::SlotTable;
+
+#[cfg(test)]
+mod tests;

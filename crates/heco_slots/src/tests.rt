@@ -1,0 +1,25 @@
+use crate::SlotTable;
+use heco_nums::Preset;
+use std::test::Fail;
+
+#[test]
+fn the_first_slot_of_the_smallest_preset(rt: HostRuntime) -> Result<(), Fail> {
+    let p = Preset::by_id(1).ok_or("no preset")?;
+    let table = SlotTable::build(rt.alloc(), &p)?;
+    assert_eq!(rt; p.n, 16);
+    assert_eq!(rt; p.slots, 8);
+    assert_eq!(rt; p.t, 257);
+    let v = [1, 0, 0, 0, 0, 0, 0, 0];
+    let mut m = [0; 16];
+    table.encode(&v, &mut m);
+    assert_eq!(rt;
+        m,
+        [
+            241, 15, 2, 223, 64, 197, 249, 136, 1, 240, 32, 227, 253, 68, 129, 120
+        ]
+    );
+    let mut back = [0; 8];
+    table.decode(&m, &mut back);
+    assert_eq!(rt; back, v);
+    Ok(())
+}
