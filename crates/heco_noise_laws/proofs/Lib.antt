@@ -1,0 +1,9 @@
+pub mod Decryption
+pub mod Fresh
+pub mod Gates
+pub mod Near
+pub mod Product
+pub mod Rounding
+pub mod Switch
+pub mod SwitchNoise
+pub mod TurnSizes
