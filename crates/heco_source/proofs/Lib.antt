@@ -1,0 +1,11 @@
+pub mod Cases
+pub mod ParameterLemmas
+pub mod Stops
+pub mod Bodies
+pub mod PortLists
+pub mod Splitting
+pub mod Laws
+pub mod Refusals
+pub mod Remainders
+pub mod SlotLemmas
+pub mod StartLemmas

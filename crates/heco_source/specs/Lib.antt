@@ -1,0 +1,10 @@
+pub mod Tokens
+pub mod Splits
+pub mod Parameters
+pub mod Grammar
+pub mod Reading
+pub mod Simples
+pub mod Sources
+pub mod Execution
+pub mod Fronts
+pub mod Slots
