@@ -1,0 +1,31 @@
+//! The program: it hands the system's files and streams to the top call, and ends with its status.
+#![tactic(auto)]
+
+use heco_outside::{FileStore, OutSink};
+use heco_top::{Outcome, heco, refuse_words};
+use std::process::ExitCode;
+use std::{env, io};
+
+// The words behind the program's name.
+fn words(rt: &HostRuntime) -> io::Result<Vec<String>> {
+    let mut words = Vec::new(rt.alloc());
+    for word in env::args(rt)?.skip(1) {
+        words.push(word)?;
+    }
+    Ok(words)
+}
+
+fn main(rt: HostRuntime) -> ExitCode {
+    let mut out = OutSink::new(rt.stdout());
+    let mut err = OutSink::new(rt.stderr());
+    let outcome = match words(&rt) {
+        Ok(words) => {
+            let alloc = rt.alloc();
+            let mut store = FileStore::new(rt);
+            heco(alloc, words.as_slice(), &mut store, &mut out, &mut err)
+        }
+        Err(error) if error.kind() == io::ErrorKind::OutOfMemory => Outcome::Memory,
+        Err(_) => refuse_words(&mut err),
+    };
+    ExitCode::from(outcome.status())
+}

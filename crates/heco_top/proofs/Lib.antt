@@ -1,0 +1,11 @@
+pub mod TextLaws
+pub mod StageLaws
+pub mod SourceLaws
+pub mod RowLaws
+pub mod InputLaws
+pub mod FinishLaws
+pub mod SteadyLaws
+pub mod PlanLaws
+pub mod EndLaws
+pub mod TopLaws
+pub mod PlainLaws

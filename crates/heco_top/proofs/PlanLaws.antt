@@ -1,0 +1,169 @@
+-- The calls of a command are the first of its planned calls.
+use Rattle.std.proofs.Common.{◌≡◌, ◌⊎◌, ◌<◌, ◌∙◌, ℕ, List, [], ◌∷◌, ◌++◌, map, Option, Some, None, Result, Ok, Err, refl, sym, ap, subst, inl, inr, append_assoc, append-nil}
+use Rattle.std.specs.Prelude.{is_some}
+use Rattle.heco_outside.specs.declared.store.Call.{Call}
+use Rattle.heco_top.specs.declared.command.Command.{Command}
+use Rattle.heco_top.specs.declared.command.Command.TheVariants.{Plain}
+use Rattle.heco_top.specs.declared.outcome.Outcome.{Outcome}
+use Rattle.heco_top.specs.declared.outcome.Outcome.TheVariants.{Ok as Fine, Refused, ReadFault, WriteFault, Memory}
+use Rattle.heco_top.specs.declared.product.Planned.{Planned}
+use Rattle.heco_top.specs.declared.product.Product.{Product}
+use Rattle.heco_top.specs.Calls.{Step, reading, writing, done, failed}
+use Rattle.heco_top.specs.Commands.{Plan, plan_of, job_of, plain_job, values_job, Prints}
+use Rattle.heco_top.specs.Endings.{Files, Gathers, Writes, EndsAfter, JobEnds, Printed}
+use Rattle.heco_top.specs.Jobs.{Job, Read, Give}
+use Rattle.heco_top.specs.Plans.{FitsPlan, Begun, StoppedAt, FollowsSteps, steps_of}
+
+-- the job reads these words in order, and what it gives is planned
+unfoldable pub Plans : Job → List ℕ → Plan → Type 0
+Plans (Read which Thing Fits Refuses next) [] plan = ⊥
+Plans (Read which Thing Fits Refuses next) (r ∷ reads) plan = (which ≡ r) × ((x : Thing) → Plans (next x) reads plan)
+Plans (Give Allowed) [] plan = (p : Product) → Allowed p → FitsPlan plan p
+Plans (Give Allowed) (r ∷ reads) plan = ⊥
+
+fits_plain : (text : List ℕ) (p : Product) → Prints text p → FitsPlan (plan_of Plain) p
+fits_plain text p h = record { writes = ap (map (λ w. w.which)) h.writes; text = ap is_some h.text }
+
+pub plans : (c : Command) → Plans (job_of c) (plan_of c).reads (plan_of c)
+unfolding Plans plain_job values_job
+plans Plain = (refl, (λ s. (refl, (λ v p h. fits_plain _ p h))))
+
+-- no written word has the number of standard output
+abbrev pub ArePositive : List ℕ → Type 0
+ArePositive [] = Unit {0}
+ArePositive (n ∷ ns) = (0 < n) × ArePositive ns
+
+pub positive : (c : Command) → ArePositive (plan_of c).writes
+positive Plain = tt
+
+module _ (words : List (List ℕ)) where
+  abbrev pub GatherFollows : List ℕ → Plan → List Call → List Call → Result Product Outcome → Type 0
+  GatherFollows reads plan calls calls' (Ok p) = (calls' ≡ calls ++ map (done words) (map reading reads)) × FitsPlan plan p
+  GatherFollows reads plan calls calls' (Err (ReadFault k)) = StoppedAt words (reading k) (map reading reads) calls calls'
+  GatherFollows reads plan calls calls' (Err (Refused r)) = Begun words (map reading reads) calls calls'
+  GatherFollows reads plan calls calls' (Err Memory) = Begun words (map reading reads) calls calls'
+  GatherFollows reads plan calls calls' (Err outcome) = ⊥
+
+  begun_behind : (step : Step) (steps : List Step) (calls calls' : List Call) → Begun words steps (calls ++ done words step ∷ []) calls' → Begun words (step ∷ steps) calls calls'
+  begun_behind step steps calls calls' b = record {
+    made = step ∷ b.made;
+    left = b.left;
+    parts = ap (λ s. step ∷ s) b.parts;
+    grew = b.grew ∙ append_assoc calls (done words step ∷ []) (map (done words) b.made);
+  }
+
+  stopped_behind : (stop step : Step) (steps : List Step) (calls calls' : List Call) → StoppedAt words stop steps (calls ++ done words step ∷ []) calls' → StoppedAt words stop (step ∷ steps) calls calls'
+  stopped_behind stop step steps calls calls' b = record {
+    made = step ∷ b.made;
+    left = b.left;
+    parts = ap (λ s. step ∷ s) b.parts;
+    grew = b.grew ∙ ap (λ x. x ++ failed words stop ∷ []) (append_assoc calls (done words step ∷ []) (map (done words) b.made));
+  }
+
+  not_begun : (steps : List Step) (calls : List Call) → Begun words steps calls calls
+  not_begun steps calls = record { made = []; left = steps; parts = refl; grew = sym (append-nil calls) }
+
+  begun_once : (step : Step) (steps : List Step) (calls calls' : List Call) → calls' ≡ calls ++ done words step ∷ [] → Begun words (step ∷ steps) calls calls'
+  begun_once step steps calls calls' is = record { made = step ∷ []; left = steps; parts = refl; grew = is }
+
+  stopped_at_once : (step : Step) (steps : List Step) (calls calls' : List Call) → calls' ≡ calls ++ failed words step ∷ [] → StoppedAt words step (step ∷ steps) calls calls'
+  stopped_at_once step steps calls calls' is = record { made = []; left = steps; parts = refl; grew = is ∙ ap (λ x. x ++ failed words step ∷ []) (sym (append-nil calls)) }
+
+  behind : (r : ℕ) (reads : List ℕ) (plan : Plan) (calls calls' : List Call) (result : Result Product Outcome) → GatherFollows reads plan (calls ++ done words (reading r) ∷ []) calls' result → GatherFollows (r ∷ reads) plan calls calls' result
+  behind r reads plan calls calls' (Ok p) h = (h.0 ∙ append_assoc calls (done words (reading r) ∷ []) (map (done words) (map reading reads)), h.1)
+  behind r reads plan calls calls' (Err (ReadFault k)) h = stopped_behind (reading k) (reading r) (map reading reads) calls calls' h
+  behind r reads plan calls calls' (Err (Refused f)) h = begun_behind (reading r) (map reading reads) calls calls' h
+  behind r reads plan calls calls' (Err Memory) h = begun_behind (reading r) (map reading reads) calls calls' h
+  behind r reads plan calls calls' (Err Fine) h = absurd h
+  behind r reads plan calls calls' (Err (WriteFault k)) h = absurd h
+
+  memory_follows : (r : ℕ) (reads : List ℕ) (plan : Plan) (calls calls' : List Call) → (calls' ≡ calls) ⊎ (calls' ≡ calls ++ done words (reading r) ∷ []) → GatherFollows (r ∷ reads) plan calls calls' (Err Memory)
+  memory_follows r reads plan calls calls' (inl is) = subst (λ cs. Begun words (map reading (r ∷ reads)) calls cs) (sym is) (not_begun (map reading (r ∷ reads)) calls)
+  memory_follows r reads plan calls calls' (inr is) = begun_once (reading r) (map reading reads) calls calls' is
+
+  pub gather_follows : (job : Job) (reads : List ℕ) (plan : Plan) (file : Files) (calls calls' : List Call) (result : Result Product Outcome) → Plans job reads plan → Gathers words job file calls calls' result → GatherFollows reads plan calls calls' result
+  unfolding Plans Gathers
+  gather_follows (Read which Thing Fits Refuses next) [] plan file calls calls' result p h = absurd p
+  gather_follows (Read which Thing Fits Refuses next) (r ∷ reads) plan file calls calls' result p (inl h) =
+      subst (λ res. GatherFollows (r ∷ reads) plan calls calls' res) (sym h.0)
+      (subst (λ k. StoppedAt words (reading which) (reading k ∷ map reading reads) calls calls') p.0 (stopped_at_once (reading which) (map reading reads) calls calls' h.1))
+  gather_follows (Read which Thing Fits Refuses next) (r ∷ reads) plan file calls calls' result p (inr (inl h)) =
+      subst (λ res. GatherFollows (r ∷ reads) plan calls calls' res) (sym h.0)
+      (subst (λ k. GatherFollows (k ∷ reads) plan calls calls' (Err Memory)) p.0 (memory_follows which reads plan calls calls' h.1))
+  gather_follows (Read which Thing Fits Refuses next) (r ∷ reads) plan file calls calls' result p (inr (inr (text, (there, inl (none, (f, (refuses, (is, grew)))))))) =
+      subst (λ res. GatherFollows (r ∷ reads) plan calls calls' res) (sym is)
+      (subst (λ k. GatherFollows (k ∷ reads) plan calls calls' (Err (Refused f))) p.0 (begun_once (reading which) (map reading reads) calls calls' grew))
+  gather_follows (Read which Thing Fits Refuses next) (r ∷ reads) plan file calls calls' result p (inr (inr (text, (there, inr (x, (fits, more)))))) =
+      subst (λ k. GatherFollows (k ∷ reads) plan calls calls' result) p.0
+      (behind which reads plan calls calls' result (gather_follows (next x) reads plan file (calls ++ done words (reading which) ∷ []) calls' result (p.1 x) more))
+  gather_follows (Give Allowed) (r ∷ reads) plan file calls calls' result p h = absurd p
+  gather_follows (Give Allowed) [] plan file calls calls' result p (inl (q, (allowed, is)), grew) =
+      subst (λ res. GatherFollows [] plan calls calls' res) (sym is) (grew ∙ sym (append-nil calls), p q allowed)
+  gather_follows (Give Allowed) [] plan file calls calls' result p (inr is, grew) =
+      subst (λ res. GatherFollows [] plan calls calls' res) (sym is) (subst (λ cs. Begun words [] calls cs) (sym grew) (not_begun [] calls))
+
+  -- ---- writing
+
+  abbrev writings_of : List Planned → List Step
+  writings_of ws = map writing (map (λ w. w.which) ws)
+
+  follows_behind : (step : Step) (steps : List Step) (calls calls' : List Call) (outcome : Outcome) → FollowsSteps words steps (calls ++ done words step ∷ []) calls' outcome → FollowsSteps words (step ∷ steps) calls calls' outcome
+  follows_behind step steps calls calls' Fine h = h ∙ append_assoc calls (done words step ∷ []) (map (done words) steps)
+  follows_behind step steps calls calls' (ReadFault k) h = stopped_behind (reading k) step steps calls calls' h
+  follows_behind step steps calls calls' (WriteFault k) (inl h) = inl (h.0, h.1 ∙ append_assoc calls (done words step ∷ []) (map (done words) steps))
+  follows_behind step steps calls calls' (WriteFault k) (inr h) = inr (h.0, stopped_behind (writing k) step steps calls calls' h.1)
+  follows_behind step steps calls calls' (Refused r) h = begun_behind step steps calls calls' h
+  follows_behind step steps calls calls' Memory h = begun_behind step steps calls calls' h
+
+  printed_follows : (text : Option (List ℕ)) (calls calls' : List Call) (out out' : List ℕ) (short short' : ℕ) (outcome : Outcome) → calls' ≡ calls → Printed text out out' short short' outcome → FollowsSteps words [] calls calls' outcome
+  printed_follows text calls calls' out out' short short' Fine is h = is ∙ sym (append-nil calls)
+  printed_follows (Some text) calls calls' out out' short short' (WriteFault k) is h = inl (h.0, is ∙ sym (append-nil calls))
+  printed_follows None calls calls' out out' short short' (WriteFault k) is h = absurd h
+  printed_follows text calls calls' out out' short short' Memory is h = subst (λ cs. Begun words [] calls cs) (sym is) (not_begun [] calls)
+  printed_follows (Some text) calls calls' out out' short short' (ReadFault k) is h = absurd h
+  printed_follows None calls calls' out out' short short' (ReadFault k) is h = absurd h
+  printed_follows (Some text) calls calls' out out' short short' (Refused r) is h = absurd h
+  printed_follows None calls calls' out out' short short' (Refused r) is h = absurd h
+
+  pub writes_follow : (ws : List Planned) (text : Option (List ℕ)) (file file' : Files) (calls calls' : List Call) (out out' : List ℕ) (short short' : ℕ) (outcome : Outcome) → ArePositive (map (λ w. w.which) ws)
+      → Writes words ws text file file' calls calls' out out' short short' outcome → FollowsSteps words (writings_of ws) calls calls' outcome
+  unfolding Writes
+  writes_follow [] text file file' calls calls' out out' short short' outcome pos h = printed_follows text calls calls' out out' short short' outcome h.1.0 h.1.1
+  writes_follow (w ∷ ws) text file file' calls calls' out out' short short' outcome pos (inl h) =
+      subst (λ o. FollowsSteps words (writings_of (w ∷ ws)) calls calls' o) (sym h.0) (inr (pos.0, stopped_at_once (writing w.which) (writings_of ws) calls calls' h.1.0))
+  writes_follow (w ∷ ws) text file file' calls calls' out out' short short' outcome pos (inr (inl h)) =
+      subst (λ o. FollowsSteps words (writings_of (w ∷ ws)) calls calls' o) (sym h.0) (subst (λ cs. Begun words (writings_of (w ∷ ws)) calls cs) (sym h.1.0) (not_begun (writings_of (w ∷ ws)) calls))
+  writes_follow (w ∷ ws) text file file' calls calls' out out' short short' outcome pos (inr (inr (between, (set, more)))) =
+      follows_behind (writing w.which) (writings_of ws) calls calls' outcome (writes_follow ws text between file' (calls ++ done words (writing w.which) ∷ []) calls' out out' short short' outcome pos.1 more)
+
+  -- all reads, and then the writes
+  reads_then : (reads : List Step) (steps : List Step) (calls calls' : List Call) (outcome : Outcome) → FollowsSteps words steps (calls ++ map (done words) reads) calls' outcome → FollowsSteps words (reads ++ steps) calls calls' outcome
+  reads_then [] steps calls calls' outcome h = subst (λ cs. FollowsSteps words steps cs calls' outcome) (append-nil calls) h
+  reads_then (r ∷ reads) steps calls calls' outcome h =
+      follows_behind r (reads ++ steps) calls calls' outcome (reads_then reads steps (calls ++ done words r ∷ []) calls' outcome (subst (λ cs. FollowsSteps words steps cs calls' outcome) (sym (append_assoc calls (done words r ∷ []) (map (done words) reads))) h))
+
+  begun_more : (steps more : List Step) (calls calls' : List Call) → Begun words steps calls calls' → Begun words (steps ++ more) calls calls'
+  begun_more steps more calls calls' b = record { made = b.made; left = b.left ++ more; parts = ap (λ s. s ++ more) b.parts ∙ append_assoc b.made b.left more; grew = b.grew }
+
+  stopped_more : (stop : Step) (steps more : List Step) (calls calls' : List Call) → StoppedAt words stop steps calls calls' → StoppedAt words stop (steps ++ more) calls calls'
+  stopped_more stop steps more calls calls' b = record { made = b.made; left = b.left ++ more; parts = ap (λ s. s ++ more) b.parts ∙ append_assoc b.made (stop ∷ b.left) more; grew = b.grew }
+
+  ends_follow : (plan : Plan) (gathered : Result Product Outcome) (file file' : Files) (calls mid calls' : List Call) (out out' : List ℕ) (short short' : ℕ) (outcome : Outcome) → ArePositive plan.writes → GatherFollows plan.reads plan calls mid gathered
+      → EndsAfter words gathered file file' mid calls' out out' short short' outcome → FollowsSteps words (steps_of plan) calls calls' outcome
+  ends_follow plan (Ok p) file file' calls mid calls' out out' short short' outcome pos g e =
+      let writes = writes_follow p.writes p.text file file' mid calls' out out' short short' outcome (subst ArePositive (sym g.1.writes) pos) e in
+      reads_then (map reading plan.reads) (map writing plan.writes) calls calls' outcome
+      (subst (λ ws. FollowsSteps words (map writing ws) (calls ++ map (done words) (map reading plan.reads)) calls' outcome) g.1.writes (subst (λ cs. FollowsSteps words (writings_of p.writes) cs calls' outcome) g.0 writes))
+  ends_follow plan (Err (ReadFault k)) file file' calls mid calls' out out' short short' outcome pos g e =
+      subst (λ o. FollowsSteps words (steps_of plan) calls calls' o) (sym e.0) (subst (λ cs. StoppedAt words (reading k) (steps_of plan) calls cs) (sym e.1.1.0) (stopped_more (reading k) (map reading plan.reads) (map writing plan.writes) calls mid g))
+  ends_follow plan (Err (Refused r)) file file' calls mid calls' out out' short short' outcome pos g e =
+      subst (λ o. FollowsSteps words (steps_of plan) calls calls' o) (sym e.0) (subst (λ cs. Begun words (steps_of plan) calls cs) (sym e.1.1.0) (begun_more (map reading plan.reads) (map writing plan.writes) calls mid g))
+  ends_follow plan (Err Memory) file file' calls mid calls' out out' short short' outcome pos g e =
+      subst (λ o. FollowsSteps words (steps_of plan) calls calls' o) (sym e.0) (subst (λ cs. Begun words (steps_of plan) calls cs) (sym e.1.1.0) (begun_more (map reading plan.reads) (map writing plan.writes) calls mid g))
+  ends_follow plan (Err Fine) file file' calls mid calls' out out' short short' outcome pos g e = absurd g
+  ends_follow plan (Err (WriteFault k)) file file' calls mid calls' out out' short short' outcome pos g e = absurd g
+
+  pub job_follows : (c : Command) (file file' : Files) (calls calls' : List Call) (out out' : List ℕ) (short short' : ℕ) (outcome : Outcome) → JobEnds words (job_of c) file file' calls calls' out out' short short' outcome
+      → FollowsSteps words (steps_of (plan_of c)) calls calls' outcome
+  job_follows c file file' calls calls' out out' short short' outcome h =
+      ends_follow (plan_of c) h.gathered file file' calls h.reads calls' out out' short short' outcome (positive c) (gather_follows (job_of c) (plan_of c).reads (plan_of c) file calls h.reads h.gathered (plans c) h.gathers) h.ends

@@ -1,0 +1,10 @@
+pub mod Words
+pub mod Texts
+pub mod Jobs
+pub mod Commands
+pub mod Calls
+pub mod Endings
+pub mod Reads
+pub mod Plans
+pub mod Lines
+pub mod Statuses
