@@ -1,0 +1,7 @@
+pub mod Empty
+pub mod FreshNoise
+pub mod LinearNoise
+pub mod NoiseLaws
+pub mod PartLaws
+pub mod ProductNoise
+pub mod SwitchedNoise
