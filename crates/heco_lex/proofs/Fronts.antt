@@ -78,27 +78,31 @@ cases_lt zero (suc b) = inl (omega arith)
 cases_lt (suc a) zero = inr (omega arith)
 cases_lt (suc a) (suc b) = elim (cases_lt a b) [ inl h ↦ inl (omega arith) | inr h ↦ inr (omega arith) ]
 
+-- the first digit, and a run of digits among the next nine bytes
 pub number_front : (text : List ℕ) (r n : ℕ) → 0 < length text → is_letter (get_or text 0 0) ≡ false → is_digit (get_or text 0 0) ≡ true
-    → IsRun is_digit (take (length text - 1) (drop 1 text)) r → n ≡ min r 9 → IsLongest text (1 + n) k.Number × (0 < 1 + n)
-number_front [] r n h e d run same = absurd (omega arith)
-number_front (c ∷ w) r n h e d run same =
-    let run' : IsRun is_digit w r = rest_run is_digit c w r run in
-    let one : suc n ≡ 1 + n = omega arith in
-    let within : r ≤ length w = run'.within in
-    let len : length (take n w) ≡ n = length-take-le n w (omega arith) in
-    let short : nat_lt (length (take n w)) 10 ≡ true = below_ten (length (take n w)) (omega arith) in (
+    → n ≡ min (length text) 10 → IsRun is_digit (take (n - 1) (drop 1 text)) r → IsLongest text (1 + r) k.Number × (0 < 1 + r)
+number_front [] r n h e d same run = absurd (omega arith)
+number_front (c ∷ w) r n h e d same run =
+    let one : suc r ≡ 1 + r = omega arith in
+    let front : length (take (n - 1) w) ≡ n - 1 = length-take-le (n - 1) w (omega arith) in
+    let within : r ≤ length (take (n - 1) w) = run.within in
+    let len : length (take r w) ≡ r = length-take-le r w (omega arith) in
+    let short : nat_lt (length (take r w)) 10 ≡ true = below_ten (length (take r w)) (omega arith) in
+    let digits : list_all is_digit (take r w) ≡ true = all_taken is_digit w r (omega arith) (λ i lt. ap is_digit (sym (get_or-take (n - 1) w i 0 (omega arith))) ∙ run.all i lt) in (
       record {
         within = omega arith;
-        is_token = subst (λ m. kind_of (take m (c ∷ w)) ≡ Some k.Number) one (digit_kind c (take n w) e d (all_taken is_digit w n (omega arith) (λ i lt. run'.all i (omega arith))) short);
-        longest = longer r n w same run'.ends;
+        is_token = subst (λ m. kind_of (take m (c ∷ w)) ≡ Some k.Number) one (digit_kind c (take r w) e d digits short);
+        longest = longer front within run.ends;
       },
       omega arith,
     )
   where
-    longer : (r n : ℕ) (w : List ℕ) → n ≡ min r 9 → (r < length w → is_digit (get_or w r 0) ≡ false) → (m : ℕ) → 1 + n < m → m ≤ length (c ∷ w) → kind_of (take m (c ∷ w)) ≡ None
-    longer r n w same ends zero lt le = absurd (omega arith)
-    longer r n w same ends (suc m) lt le = digit_none c (take m w) e d (elim (cases_lt r m) [
-      | inl small ↦ (let bad : list_all is_digit (take m w) ≡ false = not_all_taken is_digit w r m small (omega arith) (ends (omega arith)) in rw bad refl)
+    longer : length (take (n - 1) w) ≡ n - 1 → r ≤ length (take (n - 1) w) → (r < length (take (n - 1) w) → is_digit (get_or (take (n - 1) w) r 0) ≡ false)
+        → (m : ℕ) → 1 + r < m → m ≤ length (c ∷ w) → kind_of (take m (c ∷ w)) ≡ None
+    longer front within ends zero lt le = absurd (omega arith)
+    longer front within ends (suc m) lt le = digit_none c (take m w) e d (elim (cases_lt r (n - 1)) [
+      | inl small ↦ (let ended : is_digit (get_or w r 0) ≡ false = ap is_digit (sym (get_or-take (n - 1) w r 0 small)) ∙ ends (omega arith) in
+          let bad : list_all is_digit (take m w) ≡ false = not_all_taken is_digit w r m (omega arith) (omega arith) ended in rw bad refl)
       | inr large ↦ (let len : length (take m w) ≡ m = length-take-le m w (omega arith) in
           let long : nat_lt (length (take m w)) 10 ≡ false = ten_more (length (take m w)) (omega arith) in
           rw long (and_false (list_all is_digit (take m w))))

@@ -94,7 +94,8 @@ pub fn first_piece(text: &[u8]) -> Piece
         };
     }
     if is_digit(first) {
-        let len = 1 + digit_run(&text[1..]).min(9);
+        let most = text.len().min(10);
+        let len = 1 + digit_run(&text[1..most]);
         return Piece::Token {
             kind: TokenKind::Number,
             len,

@@ -46,6 +46,18 @@ length_in_brackets = do
   close_bracket ← token k.CloseBracket
   yields len
 
+abbrev pub index_within : ℕ → Spells (Option Expr)
+index_within n = do
+  open_bracket ← token k.OpenBracket
+  x ← IsSum n
+  close_bracket ← token k.CloseBracket
+  yields (Some x)
+
+-- "[" expr "]", which opens a level
+abbrev pub index : ℕ → Spells (Option Expr)
+index zero ts x = ⊥
+index (suc n) ts x = index_within n ts x
+
 module _ (n : ℕ) where
   abbrev pub expression : Spells Expr
   expression = IsSum n
@@ -64,14 +76,20 @@ module _ (n : ℕ) where
     xs ← Many (after_comma expression)
     yields (x ∷ xs)
 
+  -- "{" expr { "," expr } "}"
+  abbrev pub braced_values : Spells (List Expr)
+  braced_values = do
+    open_brace ← token k.OpenBrace
+    xs ← values
+    close_brace ← token k.CloseBrace
+    yields xs
+
   -- "[" Number "]" "=" "{" expr { "," expr } "}" ";"
   abbrev pub int_many : Place → Ident → Spells Stmt
   int_many at name = do
     len ← length_in_brackets
     assign ← token k.Assign
-    open_brace ← token k.OpenBrace
-    xs ← values
-    close_brace ← token k.CloseBrace
+    xs ← braced_values
     semi ← token k.Semi
     yields (s.IntMany at name len xs)
 
@@ -106,20 +124,13 @@ module _ (n : ℕ) where
     x ← given or not_given
     yields (s.SecretOne at name x)
 
-  abbrev pub index : Spells (Option Expr)
-  index = do
-    open_bracket ← token k.OpenBracket
-    x ← expression
-    close_bracket ← token k.CloseBracket
-    yields (Some x)
-
   abbrev pub no_index : Spells (Option Expr)
   no_index = yields None
 
   -- [ "[" expr "]" ] ( "=" | "+=" | "-=" | "*=" ) expr ";"
   abbrev pub assignment : Ident → Spells Stmt
   assignment name = do
-    i ← index or no_index
+    i ← index n or no_index
     o ← known set_op
     x ← value
     yields (s.Set name i o.0 o.1 x)
@@ -134,17 +145,23 @@ module _ (n : ℕ) where
     name ← word
     secret_many at name or secret_one at name
 
+  -- expr ".." expr
+  abbrev pub bounds : Spells (Expr × Expr)
+  bounds = do
+    low ← expression
+    range ← token k.Range
+    high ← expression
+    yields (low, high)
+
   module _ (block : Spells (List Stmt)) where
     -- Word "in" expr ".." expr block
     abbrev pub loop : Place → Spells Stmt
     loop at = do
       name ← word
       inside ← token k.In
-      low ← expression
-      range ← token k.Range
-      high ← expression
+      b ← bounds
       body ← block
-      yields (s.Loop at name low high body)
+      yields (s.Loop at name b.0 b.1 body)
 
     -- what follows the first token of a statement
     abbrev pub statement_from : First → Spells Stmt
@@ -203,19 +220,31 @@ some_params = do
 abbrev pub no_params : Spells (List Param)
 no_params = yields []
 
--- "params" Word ";" "fn" Word "(" [ param { "," param } ] ")" block
-abbrev pub source_with : Spells (List Stmt) → Spells Source
-source_with block = do
+-- "params" Word ";" "fn" Word
+abbrev pub head : Spells (Ident × Ident)
+head = do
   params ← token k.Params
   preset ← word
   semi ← token k.Semi
   fn ← token k.Fn
   name ← word
+  yields (preset, name)
+
+-- "(" [ param { "," param } ] ")"
+abbrev pub signature : Spells (List Param)
+signature = do
   opens ← token k.Open
-  ports ← no_params or some_params
+  ps ← no_params or some_params
   closes ← token k.Close
-  body ← block
-  yields (record { params = preset; name = name; ports = ports; body = body })
+  yields ps
+
+-- "params" Word ";" "fn" Word "(" [ param { "," param } ] ")" block
+abbrev pub source_with : Spells (List Stmt) → Spells Source
+source_with block = do
+  names ← head
+  ps ← signature
+  xs ← block
+  yields (record { params = names.0; name = names.1; ports = ps; body = xs })
 
 abbrev pub IsSource : ℕ → ℕ → Spells Source
 IsSource n d = source_with (IsBlock n d)

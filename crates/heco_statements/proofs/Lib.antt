@@ -1,0 +1,7 @@
+pub mod Readers
+pub mod Series
+pub mod StatementReaders
+pub mod Turns
+pub mod BlockReaders
+pub mod SourceReaders
+pub mod WholeSources

@@ -1,0 +1,8 @@
+//! Reading statements and whole sources from a list of lexemes.
+#![tactic(auto)]
+
+mod block;
+mod source;
+mod statement;
+
+pub use source::whole;
