@@ -1,0 +1,157 @@
+-- The test of a circuit says that it has a spelling.
+use Rattle.std.proofs.Common.{◌≡◌, ℕ, zero, suc, ◌+◌, ◌-◌, ◌^◌, ◌<◌, ◌≤◌, Bool, true, false, ◌&&◌, leb, ltb, eqb, List, [], ◌∷◌, ◌++◌, length, refl, sym, ap, subst, ◌∙◌, arith, length-append}
+use Rattle.std.specs.Prelude.{IsTrue}
+use Rattle.std.specs.List.{list_all}
+use Rattle.std.proofs.lemmas.Bool.{leb-true, ltb-true}
+use Rattle.std.proofs.lemmas.Bool.Decides.{nat_tests}
+use Rattle.heco_nums.specs.Presets.{modulus_of, slots_of}
+use Rattle.heco_nums.specs.declared.shape.Shape.{Shape}
+use Rattle.heco_fields.specs.Runs.{along, all_along}
+use Rattle.heco_fields.specs.Runs.{FitAlong}
+use Rattle.heco_fields.proofs.ManyLaws.{along_passes, passes_along}
+use Rattle.heco_circuit.specs.declared.gate.Cell.{Cell}
+use Rattle.heco_circuit.specs.declared.gate.Cell.TheVariants.{Number, Slot}
+use Rattle.heco_circuit.specs.declared.gate.Gate.{Gate}
+use Rattle.heco_circuit.specs.declared.gate.Gate.TheVariants.{Neg, Add, Mul, Relin, Scale, Shift, Turn}
+use Rattle.heco_circuit.specs.declared.gate.Output.{Output}
+use Rattle.heco_circuit.specs.Validity.{is_between, is_wire, has_parts, is_gate, parts_of, with_gate}
+use Rattle.heco_circuit.specs.Plans.{Plan, push, stays, is_new, is_name, is_input, is_cell, is_output, input_parts, wire_parts, are_inputs, are_gates, are_outputs, is_formed}
+use Rattle.heco_fields.proofs.Bools.{both_true, and_true}
+use Rattle.heco_circuit.proofs.GateLaws.{MayStand, IsNarrow}
+use Rattle.heco_circuit.proofs.PortLaws.{IsOwnName, IsInput, IsCell, IsOutput}
+use Rattle.heco_circuit.proofs.CircuitLaw.{IsPlan, AreInputs, AreGates, AreOutputs}
+
+slots_small : (id : ℕ) → slots_of id ≤ 512
+slots_small id = grind (arith, nat_tests)
+
+modulus_small : (id : ℕ) → modulus_of id ≤ 65537
+modulus_small id = grind (arith, nat_tests)
+
+high : (low most n : ℕ) → IsTrue (is_between low most n) → n ≤ most
+high low most n h = leb-true n most (both_true (leb low n) (leb n most) h).1
+
+between : (most n : ℕ) → n ≤ most → IsTrue (is_between 0 most n)
+between most n le = grind (arith, nat_tests)
+
+-- ---- inputs
+
+input_passes : (slots : ℕ) (earlier : List Shape) (s : Shape) → IsInput slots earlier s → IsTrue (is_input slots earlier s)
+input_passes slots earlier s h = and_true (is_name earlier [] s.name) (is_between 1 slots s.len) (and_true (is_between 1 (2 ^ 20) (length s.name)) (is_new earlier [] s.name) h.0.0 h.0.1) h.1.1
+
+input_from : (slots : ℕ) → slots ≤ 512 → (earlier : List Shape) (s : Shape) → IsTrue (is_input slots earlier s) → IsInput slots earlier s
+input_from slots small earlier s h =
+    let u = both_true (is_name earlier [] s.name) (is_between 1 slots s.len) h in
+    let v = both_true (is_between 1 (2 ^ 20) (length s.name)) (is_new earlier [] s.name) u.0 in
+    let le = high 1 slots s.len u.1 in
+    ((v.0, v.1), (omega arith, u.1))
+
+-- ---- gates
+
+wire_small : (parts : List ℕ) (a : ℕ) → length parts ≤ 2 ^ 32 → is_wire parts a ≡ true → a < 2 ^ 32
+wire_small parts a le h = let lt = ltb-true a (length parts) h in omega arith
+
+parts_small : (count : ℕ) (parts : List ℕ) (a : ℕ) → length parts ≤ 2 ^ 32 → has_parts count parts a ≡ true → a < 2 ^ 32
+parts_small count parts a le h = wire_small parts a le (both_true (is_wire parts a) _ h).0
+
+constant_small : (t low c : ℕ) → t ≤ 65537 → is_between low (t - 1) c ≡ true → c < 2 ^ 32
+constant_small t low c small h = let le = high low (t - 1) c h in omega arith
+
+amount_small : (slots low r : ℕ) → slots ≤ 512 → is_between low (slots - 1) r ≡ true → r < 2 ^ 16
+amount_small slots low r small h = let le = high low (slots - 1) r h in omega arith
+
+narrow : (t slots : ℕ) (parts : List ℕ) → t ≤ 65537 → slots ≤ 512 → length parts ≤ 2 ^ 32 → (g : Gate) → IsTrue (is_gate t slots parts g) → IsNarrow g
+narrow t slots parts ts ss le (Neg a) h = wire_small parts a le h
+narrow t slots parts ts ss le (Add a b) h = let u = both_true (is_wire parts a) (is_wire parts b) h in (wire_small parts a le u.0, wire_small parts b le u.1)
+narrow t slots parts ts ss le (Mul a b) h = let u = both_true (has_parts 2 parts a) (has_parts 2 parts b) h in (parts_small 2 parts a le u.0, parts_small 2 parts b le u.1)
+narrow t slots parts ts ss le (Relin a) h = parts_small 3 parts a le h
+narrow t slots parts ts ss le (Scale c a) h = let u = both_true (is_between 1 (t - 1) c) (is_wire parts a) h in (constant_small t 1 c ts u.0, wire_small parts a le u.1)
+narrow t slots parts ts ss le (Shift c a) h = let u = both_true (is_between 0 (t - 1) c) (is_wire parts a) h in (constant_small t 0 c ts u.0, wire_small parts a le u.1)
+narrow t slots parts ts ss le (Turn r a) h = let u = both_true (is_between 1 (slots - 1) r) (has_parts 2 parts a) h in (amount_small slots 1 r ss u.0, parts_small 2 parts a le u.1)
+
+-- so many wires may follow
+abbrev HasRoom : ℕ → List ℕ → Type 0
+HasRoom n parts = length parts + n ≤ 2 ^ 32
+
+gates_from : (t slots : ℕ) → t ≤ 65537 → slots ≤ 512 → (parts : List ℕ) (gs : List Gate) → HasRoom (length gs) parts → IsTrue (all_along (is_gate t slots) with_gate parts gs) → FitAlong (MayStand t slots) with_gate parts gs
+gates_from t slots ts ss =
+    passes_along (MayStand t slots) (is_gate t slots) with_gate HasRoom
+    (λ n parts g room. omega (arith, length-append parts (parts_of parts g ∷ [])))
+    (λ n parts g room h. (h, narrow t slots parts ts ss (omega arith) g h))
+
+pub length-input_parts : (i : List Shape) → length (input_parts i) ≡ length i
+length-input_parts [] = refl
+length-input_parts (s ∷ i) = ap suc (length-input_parts i)
+
+length-along : (parts : List ℕ) (gs : List Gate) → length (along with_gate parts gs) ≡ length parts + length gs
+length-along parts [] = omega arith
+length-along parts (g ∷ gs) = length-along (with_gate parts g) gs ∙ omega (arith, length-append parts (parts_of parts g ∷ []))
+
+-- ---- outputs
+
+cells_pass : (t slots : ℕ) (parts : List ℕ) (cs : List Cell) → FitAlong (IsCell t slots) stays parts cs → IsTrue (list_all (is_cell t slots parts) cs)
+unfolding FitAlong
+cells_pass t slots parts [] fits = refl
+cells_pass t slots parts (c ∷ cs) fits = let h : is_cell t slots parts c ≡ true = fits.0.0 in rw h (cells_pass t slots parts cs fits.1)
+
+cell_from : (t slots : ℕ) (parts : List ℕ) → t ≤ 65537 → slots ≤ 512 → length parts ≤ 2 ^ 32 → (c : Cell) → IsTrue (is_cell t slots parts c) → IsCell t slots parts c
+cell_from t slots parts ts ss le (Number n) h = (h, constant_small t 0 n ts h)
+cell_from t slots parts ts ss le (Slot w s) h = let u = both_true (has_parts 2 parts w) (is_between 0 (slots - 1) s) h in (h, (parts_small 2 parts w le u.0, amount_small slots 0 s ss u.1))
+
+cells_from : (t slots : ℕ) (parts : List ℕ) → t ≤ 65537 → slots ≤ 512 → length parts ≤ 2 ^ 32 → (cs : List Cell) → IsTrue (list_all (is_cell t slots parts) cs) → FitAlong (IsCell t slots) stays parts cs
+unfolding FitAlong
+cells_from t slots parts ts ss le [] h = tt
+cells_from t slots parts ts ss le (c ∷ cs) h = let u = both_true (is_cell t slots parts c) (list_all (is_cell t slots parts) cs) h in (cell_from t slots parts ts ss le c u.0, cells_from t slots parts ts ss le cs u.1)
+
+output_passes : (t slots : ℕ) (inputs : List Shape) (parts : List ℕ) (earlier : List Output) (o : Output) → IsOutput t slots inputs parts earlier o → IsTrue (is_output t slots inputs parts earlier o)
+output_passes t slots inputs parts earlier o h =
+    and_true (is_name inputs earlier o.name) (is_between 1 4096 (length o.cells) && list_all (is_cell t slots parts) o.cells) (and_true (is_between 1 (2 ^ 20) (length o.name)) (is_new inputs earlier o.name) h.0.0 h.0.1)
+    (and_true (is_between 1 4096 (length o.cells)) (list_all (is_cell t slots parts) o.cells) h.1.0.1 (cells_pass t slots parts o.cells h.1.1))
+
+output_from : (t slots : ℕ) (inputs : List Shape) (parts : List ℕ) → t ≤ 65537 → slots ≤ 512 → length parts ≤ 2 ^ 32 → (earlier : List Output) (o : Output) → IsTrue (is_output t slots inputs parts earlier o) → IsOutput t slots inputs parts earlier o
+output_from t slots inputs parts ts ss le earlier o h =
+    let u = both_true (is_name inputs earlier o.name) (is_between 1 4096 (length o.cells) && list_all (is_cell t slots parts) o.cells) h in
+    let v = both_true (is_between 1 (2 ^ 20) (length o.name)) (is_new inputs earlier o.name) u.0 in
+    let w = both_true (is_between 1 4096 (length o.cells)) (list_all (is_cell t slots parts) o.cells) u.1 in
+    let few = high 1 4096 (length o.cells) w.0 in
+    ((v.0, v.1), ((omega arith, w.0), cells_from t slots parts ts ss le o.cells w.1))
+
+abbrev Any : {A : Type 0} → ℕ → List A → Type 0
+Any n xs = Unit {0}
+
+-- ---- the whole
+
+pub formed : (p : Plan) → IsPlan p → IsTrue (is_formed p)
+formed p h =
+    let id = p.preset in
+    let t = modulus_of id in
+    let slots = slots_of id in
+    let i : IsTrue (are_inputs p) = and_true _ _ (both_true _ _ h.1.0.0.1).1 (along_passes (IsInput slots) (is_input slots) push (input_passes slots) [] p.inputs h.1.0.1) in
+    let g : IsTrue (are_gates p) = and_true _ _ (both_true _ _ h.1.1.0.0.1).1 (along_passes (MayStand t slots) (is_gate t slots) with_gate (λ parts g m. m.0) (input_parts p.inputs) p.gates h.1.1.0.1) in
+    let o : IsTrue (are_outputs p) = and_true _ _ (both_true _ _ h.1.1.1.0.1).1 (along_passes (IsOutput t slots p.inputs (wire_parts p)) (is_output t slots p.inputs (wire_parts p)) push (output_passes t slots p.inputs (wire_parts p)) [] p.outputs h.1.1.1.1) in
+    and_true (is_between 1 5 id) (are_inputs p && (are_gates p && are_outputs p)) h.0.1 (and_true (are_inputs p) (are_gates p && are_outputs p) i (and_true (are_gates p) (are_outputs p) g o))
+
+pub spellable : (p : Plan) → IsTrue (is_formed p) → IsPlan p
+spellable p h =
+    let id = p.preset in
+    let t = modulus_of id in
+    let slots = slots_of id in
+    let ts = modulus_small id in
+    let ss = slots_small id in
+    let a = both_true (is_between 1 5 id) (are_inputs p && (are_gates p && are_outputs p)) h in
+    let b = both_true (are_inputs p) (are_gates p && are_outputs p) a.1 in
+    let c = both_true (are_gates p) (are_outputs p) b.1 in
+    let i = both_true (leb (length p.inputs) 256) (all_along (is_input slots) push [] p.inputs) b.0 in
+    let g = both_true (leb (length p.gates) (2 ^ 25 - 1)) (all_along (is_gate t slots) with_gate (input_parts p.inputs) p.gates) c.0 in
+    let o = both_true (leb (length p.outputs) (256 - length p.inputs)) (all_along (is_output t slots p.inputs (wire_parts p)) push [] p.outputs) c.1 in
+    let id_le = high 1 5 id a.0 in
+    let i_le = leb-true _ _ i.0 in
+    let g_le = leb-true _ _ g.0 in
+    let o_le = leb-true _ _ o.0 in
+    let wires : length (wire_parts p) ≡ length p.inputs + length p.gates = length-along (input_parts p.inputs) p.gates ∙ ap (λ n. n + length p.gates) (length-input_parts p.inputs) in
+    let are_i : AreInputs id p.inputs = ((omega arith, between 256 (length p.inputs) i_le), passes_along (IsInput slots) (is_input slots) push Any (λ n s x _. tt) (λ n s x _ u. input_from slots ss s x u) [] p.inputs tt i.1) in
+    let are_g : AreGates id (input_parts p.inputs) p.gates = ((omega arith, between (2 ^ 25 - 1) (length p.gates) g_le), gates_from t slots ts ss (input_parts p.inputs) p.gates (omega (arith, length-input_parts p.inputs)) g.1) in
+    let are_o : AreOutputs id p.inputs (wire_parts p) p.outputs = (
+      (omega arith, between (256 - length p.inputs) (length p.outputs) o_le),
+      passes_along (IsOutput t slots p.inputs (wire_parts p)) (is_output t slots p.inputs (wire_parts p)) push Any (λ n s x _. tt) (λ n s x _ u. output_from t slots p.inputs (wire_parts p) ts ss (omega arith) s x u) [] p.outputs tt o.1,
+    ) in
+    ((omega arith, a.0), (are_i, (are_g, are_o)))

@@ -1,0 +1,231 @@
+-- What is read of a gate is what was spelled, for exactly the gates that may stand there.
+use Rattle.std.proofs.Common.{◌≡◌, ℕ, zero, suc, ◌+◌, ◌-◌, ◌^◌, ◌<◌, ◌≤◌, Bool, true, false, cond, ◌&&◌, ◌||◌, leb, ltb, eqb, List, [], ◌∷◌, ◌++◌, length, Result, Ok, Err, refl, sym, ap, subst, ◌∙◌, append_assoc, arith, inl, inr, ◌⊎◌}
+use Rattle.std.specs.Prelude.{IsTrue}
+use Rattle.std.specs.Int.{w8, w16, w32, to_be_bytes}
+use Rattle.std.proofs.lemmas.List.{append-nil}
+use Rattle.std.proofs.lemmas.Bool.{eqb-true, leb-true, ltb-true}
+use Rattle.heco_fields.specs.Formats.{Format, Value, number, within, ◌>>=◌ as ◌then◌}
+use Rattle.heco_fields.proofs.Laws.{Law, value_law, then_law, same_law}
+use Rattle.heco_fields.proofs.FieldLaws.{number_law, wide8, wide16, wide32}
+use Rattle.heco_fields.proofs.Bools.{both_true, and_true}
+use Rattle.heco_circuit.specs.declared.gate.Gate.{Gate}
+use Rattle.heco_circuit.specs.declared.gate.Gate.TheVariants.{Neg, Add, Mul, Relin, Scale, Shift, Turn}
+use Rattle.heco_circuit.specs.Validity.{is_wire, has_parts, is_between, is_gate}
+use Rattle.heco_circuit.specs.GateFormat.{is_tag, wire, wire_of, neg, add, mul, relin, scale, shift, turn, operands, gate, operands_text, tag_of, gate_text}
+
+-- the numbers of a gate fit their fields
+abbrev pub IsNarrow : Gate → Type 0
+IsNarrow (Neg a) = a < 2 ^ 32
+IsNarrow (Add a b) = (a < 2 ^ 32) × (b < 2 ^ 32)
+IsNarrow (Mul a b) = (a < 2 ^ 32) × (b < 2 ^ 32)
+IsNarrow (Relin a) = a < 2 ^ 32
+IsNarrow (Scale c a) = (c < 2 ^ 32) × (a < 2 ^ 32)
+IsNarrow (Shift c a) = (c < 2 ^ 32) × (a < 2 ^ 32)
+IsNarrow (Turn r a) = (r < 2 ^ 16) × (a < 2 ^ 32)
+
+-- a gate with this tag that may stand there
+abbrev pub Stands : ℕ → ℕ → List ℕ → ℕ → Gate → Type 0
+Stands t slots parts tag g = (tag_of g ≡ tag) × IsTrue (is_gate t slots parts g) × IsNarrow g
+
+-- the first number behind the tag, and the second
+abbrev first : Gate → ℕ
+first (Neg a) = a
+first (Add a b) = a
+first (Mul a b) = a
+first (Relin a) = a
+first (Scale c a) = c
+first (Shift c a) = c
+first (Turn r a) = r
+
+abbrev second : Gate → ℕ
+second (Add a b) = b
+second (Mul a b) = b
+second (Scale c a) = a
+second (Shift c a) = a
+second (Turn r a) = a
+second g = 0
+
+wire_law : (parts : List ℕ) → Law (wire parts) (to_be_bytes w32) (λ a. (a < 2 ^ 32) × IsTrue (is_wire parts a))
+wire_law parts = number_law w32 (2 ^ 32) wide32 (is_wire parts)
+
+wire_of_law : (count : ℕ) (parts : List ℕ) → Law (wire_of count parts) (to_be_bytes w32) (λ a. (a < 2 ^ 32) × IsTrue (has_parts count parts a))
+wire_of_law count parts = number_law w32 (2 ^ 32) wide32 (has_parts count parts)
+
+constant_law : (low high : ℕ) → Law (within w32 low high) (to_be_bytes w32) (λ c. (c < 2 ^ 32) × IsTrue (is_between low high c))
+constant_law low high = number_law w32 (2 ^ 32) wide32 (is_between low high)
+
+amount_law : (low high : ℕ) → Law (within w16 low high) (to_be_bytes w16) (λ c. (c < 2 ^ 16) × IsTrue (is_between low high c))
+amount_law low high = number_law w16 (2 ^ 16) wide16 (is_between low high)
+
+neg_from : (t slots : ℕ) (parts : List ℕ) (g : Gate) → Stands t slots parts 1 g → ((first g < 2 ^ 32) × IsTrue (is_wire parts (first g))) × (Neg (first g) ≡ g)
+neg_from t slots parts (Neg a) h = ((h.2, h.1), refl)
+neg_from t slots parts g h = absurd (omega (arith, h.0))
+
+neg_law : (t slots : ℕ) (parts : List ℕ) → Law (neg parts) operands_text (Stands t slots parts 1)
+unfolding neg
+neg_law t slots parts =
+    same_law (neg parts) (λ g. to_be_bytes w32 (first g) ++ []) operands_text (λ g. ((first g < 2 ^ 32) × IsTrue (is_wire parts (first g))) × (Neg (first g) ≡ g)) (Stands t slots parts 1)
+    (then_law (wire parts) (λ a. Value (Neg a)) (to_be_bytes w32) (λ _. []) (λ a. (a < 2 ^ 32) × IsTrue (is_wire parts a)) (λ a g. Neg a ≡ g) first (wire_law parts) (λ a _. value_law (Neg a)) (λ a g e. ap first (sym e)))
+    (λ g h. subst (λ (k : Gate). to_be_bytes w32 (first k) ++ [] ≡ operands_text k) h.1 (append-nil (to_be_bytes w32 (first g))))
+    (λ g h. subst (Stands t slots parts 1) h.1 (refl, h.0.1, h.0.0))
+    (neg_from t slots parts)
+
+relin_from : (t slots : ℕ) (parts : List ℕ) (g : Gate) → Stands t slots parts 5 g → ((first g < 2 ^ 32) × IsTrue (has_parts 3 parts (first g))) × (Relin (first g) ≡ g)
+relin_from t slots parts (Relin a) h = ((h.2, h.1), refl)
+relin_from t slots parts g h = absurd (omega (arith, h.0))
+
+relin_law : (t slots : ℕ) (parts : List ℕ) → Law (relin parts) operands_text (Stands t slots parts 5)
+unfolding relin
+relin_law t slots parts =
+    same_law (relin parts) (λ g. to_be_bytes w32 (first g) ++ []) operands_text (λ g. ((first g < 2 ^ 32) × IsTrue (has_parts 3 parts (first g))) × (Relin (first g) ≡ g)) (Stands t slots parts 5)
+    (then_law (wire_of 3 parts) (λ a. Value (Relin a)) (to_be_bytes w32) (λ _. []) (λ a. (a < 2 ^ 32) × IsTrue (has_parts 3 parts a)) (λ a g. Relin a ≡ g) first (wire_of_law 3 parts) (λ a _. value_law (Relin a)) (λ a g e. ap first (sym e)))
+    (λ g h. subst (λ (k : Gate). to_be_bytes w32 (first k) ++ [] ≡ operands_text k) h.1 (append-nil (to_be_bytes w32 (first g))))
+    (λ g h. subst (Stands t slots parts 5) h.1 (refl, h.0.1, h.0.0))
+    (relin_from t slots parts)
+
+abbrev add_fits : (t slots : ℕ) (parts : List ℕ) → Gate → Type 0
+add_fits t slots parts g = (((first g) < 2 ^ 32) × IsTrue (is_wire parts (first g))) × ((((second g) < 2 ^ 32) × IsTrue (is_wire parts (second g))) × (Add (first g) (second g) ≡ g))
+
+add_from : (t slots : ℕ) (parts : List ℕ) (g : Gate) → Stands t slots parts 2 g → add_fits t slots parts g
+add_from t slots parts (Add a b) h = let v = both_true (is_wire parts a) (is_wire parts b) h.1 in ((h.2.0, v.0), ((h.2.1, v.1), refl))
+add_from t slots parts g h = absurd (omega (arith, h.0))
+
+add_law : (t slots : ℕ) (parts : List ℕ) → Law (add parts) operands_text (Stands t slots parts 2)
+unfolding add
+add_law t slots parts =
+    same_law (add parts) (λ g. to_be_bytes w32 (first g) ++ (to_be_bytes w32 (second g) ++ [])) operands_text (add_fits t slots parts) (Stands t slots parts 2)
+    (then_law (wire parts) (λ a. wire parts then λ b. Value (Add a b)) (to_be_bytes w32) (λ g. to_be_bytes w32 (second g) ++ []) (λ a. ((a < 2 ^ 32) × IsTrue (is_wire parts a))) (λ a g. (((second g) < 2 ^ 32) × IsTrue (is_wire parts (second g))) × (Add a (second g) ≡ g)) first (wire_law parts)
+    (λ a _. then_law (wire parts) (λ b. Value (Add a b)) (to_be_bytes w32) (λ _. []) (λ b. ((b < 2 ^ 32) × IsTrue (is_wire parts b))) (λ b g. Add a b ≡ g) second (wire_law parts) (λ b _. value_law (Add a b)) (λ b g e. ap second (sym e)))
+    (λ a g h. ap first (sym h.1)))
+    (λ g h. subst (λ (k : Gate). to_be_bytes w32 (first k) ++ (to_be_bytes w32 (second k) ++ []) ≡ operands_text k) h.1.1 (ap (λ s. to_be_bytes w32 (first g) ++ s) (append-nil (to_be_bytes w32 (second g)))))
+    (λ g h. subst (Stands t slots parts 2) h.1.1 (refl, and_true _ _ h.0.1 h.1.0.1, (h.0.0, h.1.0.0)))
+    (add_from t slots parts)
+
+abbrev mul_fits : (t slots : ℕ) (parts : List ℕ) → Gate → Type 0
+mul_fits t slots parts g = (((first g) < 2 ^ 32) × IsTrue (has_parts 2 parts (first g))) × ((((second g) < 2 ^ 32) × IsTrue (has_parts 2 parts (second g))) × (Mul (first g) (second g) ≡ g))
+
+mul_from : (t slots : ℕ) (parts : List ℕ) (g : Gate) → Stands t slots parts 4 g → mul_fits t slots parts g
+mul_from t slots parts (Mul a b) h = let v = both_true (has_parts 2 parts a) (has_parts 2 parts b) h.1 in ((h.2.0, v.0), ((h.2.1, v.1), refl))
+mul_from t slots parts g h = absurd (omega (arith, h.0))
+
+mul_law : (t slots : ℕ) (parts : List ℕ) → Law (mul parts) operands_text (Stands t slots parts 4)
+unfolding mul
+mul_law t slots parts =
+    same_law (mul parts) (λ g. to_be_bytes w32 (first g) ++ (to_be_bytes w32 (second g) ++ [])) operands_text (mul_fits t slots parts) (Stands t slots parts 4)
+    (then_law (wire_of 2 parts) (λ a. wire_of 2 parts then λ b. Value (Mul a b)) (to_be_bytes w32) (λ g. to_be_bytes w32 (second g) ++ []) (λ a. ((a < 2 ^ 32) × IsTrue (has_parts 2 parts a))) (λ a g. (((second g) < 2 ^ 32) × IsTrue (has_parts 2 parts (second g))) × (Mul a (second g) ≡ g)) first (wire_of_law 2 parts)
+    (λ a _. then_law (wire_of 2 parts) (λ b. Value (Mul a b)) (to_be_bytes w32) (λ _. []) (λ b. ((b < 2 ^ 32) × IsTrue (has_parts 2 parts b))) (λ b g. Mul a b ≡ g) second (wire_of_law 2 parts) (λ b _. value_law (Mul a b)) (λ b g e. ap second (sym e)))
+    (λ a g h. ap first (sym h.1)))
+    (λ g h. subst (λ (k : Gate). to_be_bytes w32 (first k) ++ (to_be_bytes w32 (second k) ++ []) ≡ operands_text k) h.1.1 (ap (λ s. to_be_bytes w32 (first g) ++ s) (append-nil (to_be_bytes w32 (second g)))))
+    (λ g h. subst (Stands t slots parts 4) h.1.1 (refl, and_true _ _ h.0.1 h.1.0.1, (h.0.0, h.1.0.0)))
+    (mul_from t slots parts)
+
+abbrev scale_fits : (t slots : ℕ) (parts : List ℕ) → Gate → Type 0
+scale_fits t slots parts g = (((first g) < 2 ^ 32) × IsTrue (is_between 1 (t - 1) (first g))) × ((((second g) < 2 ^ 32) × IsTrue (is_wire parts (second g))) × (Scale (first g) (second g) ≡ g))
+
+scale_from : (t slots : ℕ) (parts : List ℕ) (g : Gate) → Stands t slots parts 6 g → scale_fits t slots parts g
+scale_from t slots parts (Scale a b) h = let v = both_true (is_between 1 (t - 1) a) (is_wire parts b) h.1 in ((h.2.0, v.0), ((h.2.1, v.1), refl))
+scale_from t slots parts g h = absurd (omega (arith, h.0))
+
+scale_law : (t slots : ℕ) (parts : List ℕ) → Law (scale t parts) operands_text (Stands t slots parts 6)
+unfolding scale
+scale_law t slots parts =
+    same_law (scale t parts) (λ g. to_be_bytes w32 (first g) ++ (to_be_bytes w32 (second g) ++ [])) operands_text (scale_fits t slots parts) (Stands t slots parts 6)
+    (then_law (within w32 1 (t - 1)) (λ a. wire parts then λ b. Value (Scale a b)) (to_be_bytes w32) (λ g. to_be_bytes w32 (second g) ++ []) (λ a. ((a < 2 ^ 32) × IsTrue (is_between 1 (t - 1) a))) (λ a g. (((second g) < 2 ^ 32) × IsTrue (is_wire parts (second g))) × (Scale a (second g) ≡ g)) first (constant_law 1 (t - 1))
+    (λ a _. then_law (wire parts) (λ b. Value (Scale a b)) (to_be_bytes w32) (λ _. []) (λ b. ((b < 2 ^ 32) × IsTrue (is_wire parts b))) (λ b g. Scale a b ≡ g) second (wire_law parts) (λ b _. value_law (Scale a b)) (λ b g e. ap second (sym e)))
+    (λ a g h. ap first (sym h.1)))
+    (λ g h. subst (λ (k : Gate). to_be_bytes w32 (first k) ++ (to_be_bytes w32 (second k) ++ []) ≡ operands_text k) h.1.1 (ap (λ s. to_be_bytes w32 (first g) ++ s) (append-nil (to_be_bytes w32 (second g)))))
+    (λ g h. subst (Stands t slots parts 6) h.1.1 (refl, and_true _ _ h.0.1 h.1.0.1, (h.0.0, h.1.0.0)))
+    (scale_from t slots parts)
+
+abbrev shift_fits : (t slots : ℕ) (parts : List ℕ) → Gate → Type 0
+shift_fits t slots parts g = (((first g) < 2 ^ 32) × IsTrue (is_between 0 (t - 1) (first g))) × ((((second g) < 2 ^ 32) × IsTrue (is_wire parts (second g))) × (Shift (first g) (second g) ≡ g))
+
+shift_from : (t slots : ℕ) (parts : List ℕ) (g : Gate) → Stands t slots parts 7 g → shift_fits t slots parts g
+shift_from t slots parts (Shift a b) h = let v = both_true (is_between 0 (t - 1) a) (is_wire parts b) h.1 in ((h.2.0, v.0), ((h.2.1, v.1), refl))
+shift_from t slots parts g h = absurd (omega (arith, h.0))
+
+shift_law : (t slots : ℕ) (parts : List ℕ) → Law (shift t parts) operands_text (Stands t slots parts 7)
+unfolding shift
+shift_law t slots parts =
+    same_law (shift t parts) (λ g. to_be_bytes w32 (first g) ++ (to_be_bytes w32 (second g) ++ [])) operands_text (shift_fits t slots parts) (Stands t slots parts 7)
+    (then_law (within w32 0 (t - 1)) (λ a. wire parts then λ b. Value (Shift a b)) (to_be_bytes w32) (λ g. to_be_bytes w32 (second g) ++ []) (λ a. ((a < 2 ^ 32) × IsTrue (is_between 0 (t - 1) a))) (λ a g. (((second g) < 2 ^ 32) × IsTrue (is_wire parts (second g))) × (Shift a (second g) ≡ g)) first (constant_law 0 (t - 1))
+    (λ a _. then_law (wire parts) (λ b. Value (Shift a b)) (to_be_bytes w32) (λ _. []) (λ b. ((b < 2 ^ 32) × IsTrue (is_wire parts b))) (λ b g. Shift a b ≡ g) second (wire_law parts) (λ b _. value_law (Shift a b)) (λ b g e. ap second (sym e)))
+    (λ a g h. ap first (sym h.1)))
+    (λ g h. subst (λ (k : Gate). to_be_bytes w32 (first k) ++ (to_be_bytes w32 (second k) ++ []) ≡ operands_text k) h.1.1 (ap (λ s. to_be_bytes w32 (first g) ++ s) (append-nil (to_be_bytes w32 (second g)))))
+    (λ g h. subst (Stands t slots parts 7) h.1.1 (refl, and_true _ _ h.0.1 h.1.0.1, (h.0.0, h.1.0.0)))
+    (shift_from t slots parts)
+
+abbrev turn_fits : (t slots : ℕ) (parts : List ℕ) → Gate → Type 0
+turn_fits t slots parts g = (((first g) < 2 ^ 16) × IsTrue (is_between 1 (slots - 1) (first g))) × ((((second g) < 2 ^ 32) × IsTrue (has_parts 2 parts (second g))) × (Turn (first g) (second g) ≡ g))
+
+turn_from : (t slots : ℕ) (parts : List ℕ) (g : Gate) → Stands t slots parts 8 g → turn_fits t slots parts g
+turn_from t slots parts (Turn a b) h = let v = both_true (is_between 1 (slots - 1) a) (has_parts 2 parts b) h.1 in ((h.2.0, v.0), ((h.2.1, v.1), refl))
+turn_from t slots parts g h = absurd (omega (arith, h.0))
+
+turn_law : (t slots : ℕ) (parts : List ℕ) → Law (turn slots parts) operands_text (Stands t slots parts 8)
+unfolding turn
+turn_law t slots parts =
+    same_law (turn slots parts) (λ g. to_be_bytes w16 (first g) ++ (to_be_bytes w32 (second g) ++ [])) operands_text (turn_fits t slots parts) (Stands t slots parts 8)
+    (then_law (within w16 1 (slots - 1)) (λ a. wire_of 2 parts then λ b. Value (Turn a b)) (to_be_bytes w16) (λ g. to_be_bytes w32 (second g) ++ []) (λ a. ((a < 2 ^ 16) × IsTrue (is_between 1 (slots - 1) a))) (λ a g. (((second g) < 2 ^ 32) × IsTrue (has_parts 2 parts (second g))) × (Turn a (second g) ≡ g)) first (amount_law 1 (slots - 1))
+    (λ a _. then_law (wire_of 2 parts) (λ b. Value (Turn a b)) (to_be_bytes w32) (λ _. []) (λ b. ((b < 2 ^ 32) × IsTrue (has_parts 2 parts b))) (λ b g. Turn a b ≡ g) second (wire_of_law 2 parts) (λ b _. value_law (Turn a b)) (λ b g e. ap second (sym e)))
+    (λ a g h. ap first (sym h.1)))
+    (λ g h. subst (λ (k : Gate). to_be_bytes w16 (first k) ++ (to_be_bytes w32 (second k) ++ []) ≡ operands_text k) h.1.1 (ap (λ s. to_be_bytes w16 (first g) ++ s) (append-nil (to_be_bytes w32 (second g)))))
+    (λ g h. subst (Stands t slots parts 8) h.1.1 (refl, and_true _ _ h.0.1 h.1.0.1, (h.0.0, h.1.0.0)))
+    (turn_from t slots parts)
+
+-- ---- the tag and what follows it
+
+either : (a b : Bool) → (a || b) ≡ true → (a ≡ true) ⊎ (b ≡ true)
+either true b e = inl refl
+either false b e = inr e
+
+tag_cases : (P : ℕ → Type 0) → P 1 → P 2 → P 4 → P 5 → P 6 → P 7 → P 8 → (tag : ℕ) → IsTrue (is_tag tag) → P tag
+tag_cases P p1 p2 p4 p5 p6 p7 p8 tag h =
+    let is : (n : ℕ) → P n → eqb tag n ≡ true → P tag = λ n p e. subst P (sym (eqb-true tag n e)) p in
+    elim (either _ (eqb tag 8) h) [
+      | inr e ↦ is 8 p8 e
+      | inl h7 ↦ elim (either _ (eqb tag 7) h7) [
+        | inr e ↦ is 7 p7 e
+        | inl h6 ↦ elim (either _ (eqb tag 6) h6) [
+          | inr e ↦ is 6 p6 e
+          | inl h5 ↦ elim (either _ (eqb tag 5) h5) [
+            | inr e ↦ is 5 p5 e
+            | inl h4 ↦ elim (either _ (eqb tag 4) h4) [
+              | inr e ↦ is 4 p4 e
+              | inl h2 ↦ elim (either _ (eqb tag 2) h2) [
+                | inr e ↦ is 2 p2 e
+                | inl e ↦ is 1 p1 e
+              ]
+            ]
+          ]
+        ]
+      ]
+    ]
+
+operands_law : (t slots : ℕ) (parts : List ℕ) (tag : ℕ) → IsTrue (is_tag tag) → Law (operands t slots parts tag) operands_text (Stands t slots parts tag)
+operands_law t slots parts =
+    tag_cases (λ tag. Law (operands t slots parts tag) operands_text (Stands t slots parts tag)) (neg_law t slots parts) (add_law t slots parts) (mul_law t slots parts) (relin_law t slots parts)
+    (scale_law t slots parts) (shift_law t slots parts) (turn_law t slots parts)
+
+-- a gate that may stand there
+abbrev pub MayStand : ℕ → ℕ → List ℕ → Gate → Type 0
+MayStand t slots parts g = IsTrue (is_gate t slots parts g) × IsNarrow g
+
+tag_is_tag : (g : Gate) → IsTrue (is_tag (tag_of g)) × (tag_of g < 2 ^ 8)
+tag_is_tag (Neg a) = (refl, omega arith)
+tag_is_tag (Add a b) = (refl, omega arith)
+tag_is_tag (Mul a b) = (refl, omega arith)
+tag_is_tag (Relin a) = (refl, omega arith)
+tag_is_tag (Scale c a) = (refl, omega arith)
+tag_is_tag (Shift c a) = (refl, omega arith)
+tag_is_tag (Turn r a) = (refl, omega arith)
+
+pub gate_law : (t slots : ℕ) (parts : List ℕ) → Law (gate t slots parts) gate_text (MayStand t slots parts)
+unfolding gate
+gate_law t slots parts =
+    same_law (gate t slots parts) gate_text gate_text (λ g. ((tag_of g < 2 ^ 8) × IsTrue (is_tag (tag_of g))) × Stands t slots parts (tag_of g) g) (MayStand t slots parts)
+    (then_law (number w8 is_tag) (operands t slots parts) (to_be_bytes w8) operands_text (λ tag. (tag < 2 ^ 8) × IsTrue (is_tag tag)) (Stands t slots parts) tag_of
+    (number_law w8 (2 ^ 8) wide8 is_tag) (λ tag h. operands_law t slots parts tag h.1) (λ tag g h. h.0))
+    (λ g h. refl)
+    (λ g h. (h.1.1, h.1.2))
+    (λ g h. let tag = tag_is_tag g in ((tag.1, tag.0), (refl, h.0, h.1)))

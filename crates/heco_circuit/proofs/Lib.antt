@@ -1,0 +1,7 @@
+pub mod GateLaws
+pub mod PortLaws
+pub mod CircuitLaw
+pub mod Formed
+pub mod Sizes
+pub mod FileLaws
+pub mod Rising

@@ -1,0 +1,10 @@
+use Rattle.std.proofs.Common.{◌≡◌, ap, ◌∙◌}
+use Rattle.heco_nums.specs.Presets.{modulus_of}
+use Rattle.heco_circuit.proofs.Sizes.{formed_gates}
+use Rattle.heco_circuit.proofs.quiet.bounds.Goals as goal
+
+pub noise_of-requires-clause-constants : goal.noise_of-requires-clause-constants
+noise_of-requires-clause-constants c =
+    let f = formed_gates c.args.c.now c.preset.ensures.valid.0 in
+    let t : c.preset.result.now.t ≡ modulus_of c.args.c.now.preset = c.preset.result.now.row.4 ∙ ap modulus_of c.preset.ensures.preset in
+    rw (t, c.as_slice-2.ensures, c.gates.ensures) f.constants

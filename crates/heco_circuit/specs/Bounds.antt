@@ -1,0 +1,46 @@
+-- The written bound of the noise of each wire, a product and its relinearisation as gates of their own.
+use Rattle.std.specs.Prelude.{◌≡◌, ℕ, ◌+◌, Bool, true, List, [], ◌∷◌, ◌++◌, Option, Some, None, slice_index, if◌then◌else◌, nat_lt}
+use Rattle.heco_nums.specs.Presets.{degree_of, modulus_of, weight_of, error_of}
+use Rattle.heco_noise.specs.Rows.{passes}
+use Rattle.heco_noise.specs.Rows as rows
+use Rattle.heco_fields.specs.Runs.{along}
+use Rattle.heco_circuit.specs.declared.gate.Gate.{Gate}
+use Rattle.heco_circuit.specs.declared.gate.Gate.TheVariants.{Neg, Add, Mul, Relin, Scale, Shift, Turn}
+
+-- of a fresh encryption under the preset of this number
+abbrev pub fresh_of : ℕ → ℕ
+fresh_of id = rows.fresh (modulus_of id) (weight_of id) (error_of id)
+
+-- of each input
+abbrev pub fresh_bounds : {A : Type 0} → ℕ → List A → List ℕ
+fresh_bounds id [] = []
+fresh_bounds id (s ∷ inputs) = fresh_of id ∷ fresh_bounds id inputs
+
+-- of a gate behind wires of these bounds
+abbrev pub bound_of : ℕ → List ℕ → Gate → ℕ
+bound_of id bounds (Neg a) = slice_index bounds a
+bound_of id bounds (Add a b) = rows.added (slice_index bounds a) (slice_index bounds b)
+bound_of id bounds (Mul a b) = rows.multiplied (degree_of id) (modulus_of id) (weight_of id) (slice_index bounds a) (slice_index bounds b)
+bound_of id bounds (Relin a) = rows.turned (modulus_of id) (degree_of id) (error_of id) (slice_index bounds a)
+bound_of id bounds (Scale c a) = rows.scaled_by (modulus_of id) c (slice_index bounds a)
+bound_of id bounds (Shift c a) = rows.shifted (modulus_of id) (slice_index bounds a)
+bound_of id bounds (Turn r a) = rows.turned (modulus_of id) (degree_of id) (error_of id) (slice_index bounds a)
+
+-- the bounds of the wires with that of the gate
+abbrev pub with_bound : ℕ → List ℕ → Gate → List ℕ
+with_bound id bounds g = bounds ++ bound_of id bounds g ∷ []
+
+-- of all wires, behind so many inputs
+abbrev pub wire_bounds : {A : Type 0} → ℕ → List A → List Gate → List ℕ
+wire_bounds id inputs gates = along (with_bound id) (fresh_bounds id inputs) gates
+
+-- the first gate whose bound passes, counted from this number, and its bound
+abbrev pub first_passing : ℕ → ℕ → List ℕ → List Gate → Option (ℕ × ℕ)
+first_passing id number bounds [] = None
+first_passing id number bounds (g ∷ gates) =
+    if passes (bound_of id bounds g) then Some (number, bound_of id bounds g) else first_passing id (number + 1) (with_bound id bounds g) gates
+
+-- the constant of a multiple is below t
+abbrev pub is_below : ℕ → Gate → Bool
+is_below t (Scale c a) = nat_lt c t
+is_below t g = true

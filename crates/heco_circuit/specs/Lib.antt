@@ -1,0 +1,9 @@
+pub mod Validity
+pub mod Bounds
+pub mod Plans
+pub mod GateFormat
+pub mod CircuitFormat
+pub mod Circuits
+pub mod Needs
+pub mod Noises
+pub mod CircuitFile

@@ -1,0 +1,27 @@
+-- The switch keys that a circuit needs.
+use Rattle.std.specs.Prelude.{ℕ, zero, suc, ◌+◌, ◌-◌, Bool, true, false, ◌==◌, List, [], ◌∷◌, if◌then◌else◌}
+use Rattle.std.specs.List.{list_any}
+use Rattle.heco_nums.specs.Presets.{slots_of}
+use Rattle.heco_circuit.specs.declared.gate.Gate.{Gate}
+use Rattle.heco_circuit.specs.declared.gate.Gate.TheVariants.{Neg, Add, Mul, Relin, Scale, Shift, Turn}
+use Rattle.heco_circuit.specs.Plans.{Plan}
+
+abbrev pub is_relin : Gate → Bool
+is_relin (Relin a) = true
+is_relin g = false
+
+abbrev pub turns_by : ℕ → Gate → Bool
+turns_by amount (Turn r a) = r == amount
+turns_by amount g = false
+
+-- the amounts by which a gate turns, of so many from this one on
+abbrev pub occurring : List Gate → ℕ → ℕ → List ℕ
+occurring gates amount zero = []
+occurring gates amount (suc n) = if list_any (turns_by amount) gates then amount ∷ occurring gates (amount + 1) n else occurring gates (amount + 1) n
+
+abbrev pub needs_relin : Plan → Bool
+needs_relin p = list_any is_relin p.gates
+
+-- the amounts from 1 to N - 1 by which a gate turns
+abbrev pub needed_turns : Plan → List ℕ
+needed_turns p = occurring p.gates 1 (slots_of p.preset - 1)

@@ -1,0 +1,123 @@
+ghost use Rattle.std.specs.Prelude.{◌≡◌, ◌≤◌, ◌^◌, ◌<◌, length, IfOk, OnOk, codes, IsSome};
+ghost use Rattle.heco_nums.specs.Presets.{modulus_of, slots_of};
+ghost use Rattle.heco_fields.specs.Readings.{Gives, reading};
+ghost use Rattle.heco_fields.specs.Runs.{along};
+ghost use Rattle.heco_circuit.specs.Validity.{with_gate};
+ghost use Rattle.heco_circuit.specs.Plans.{input_parts};
+ghost use Rattle.heco_circuit.specs.CircuitFormat.{inputs, gates, outputs, plan, circuit};
+
+use crate::gate::{Gate, Output};
+use crate::read_gates::gates_at;
+use crate::read_ports::{inputs_at, outputs_at};
+use heco_fields::{Fault, header_at, u16_within, u32_within};
+use heco_nums::{List, Memory, Preset, Shape};
+use std::alloc::Global;
+
+/// What a circuit file says, whatever its noise.
+#[derive(Debug, Drop)]
+pub struct Draft {
+    pub preset: Preset,
+    pub inputs: List<Shape>,
+    pub gates: List<Gate>,
+    pub outputs: List<Output>,
+}
+
+#[tactic(auto, using(heco_fields::proofs::Steps::reading_then), unfolding(crate::specs::CircuitFormat::inputs))]
+fn all_inputs_at<'a>(
+    alloc: Global,
+    preset: &Preset,
+    bytes: &'a [u8],
+) -> Result<(List<Shape>, &'a [u8]), Fault>
+    ensures inputs { Gives (λ x. (x.0, x.1.now)) result (reading (inputs preset.now.id) bytes.now) }
+    ensures few { IfOk result (λ x. length x.0 ≤ 256) }
+{
+    let (count, rest) = u16_within(bytes, 0, 256)?;
+    inputs_at(alloc, preset.slots as u16, count, rest)
+}
+
+fn input_parts(alloc: Global, inputs: &[Shape]) -> Result<List<u8>, Memory>
+    ensures { IfOk result (λ parts. parts ≡ input_parts inputs.now) }
+{
+    let mut parts = List::new(alloc);
+    let mut rest = inputs;
+    while let [_, after @ ..] = rest {
+        parts.push(2)?;
+        rest = after;
+    }
+    Ok(parts)
+}
+
+#[tactic(auto, using(heco_fields::proofs::Steps::reading_then), unfolding(crate::specs::CircuitFormat::gates))]
+fn all_gates_at<'a>(
+    alloc: Global,
+    preset: &Preset,
+    parts: List<u8>,
+    bytes: &'a [u8],
+) -> Result<((List<Gate>, List<u8>), &'a [u8]), Fault>
+    ensures gates { Gives (λ x. (x.0.0, x.1.now)) result (reading (gates preset.now.id parts) bytes.now) }
+    ensures parts { IfOk result (λ x. x.0.1 ≡ along with_gate parts x.0.0) }
+{
+    let (count, rest) = u32_within(bytes, 0, (1 << 25) - 1)?;
+    gates_at(alloc, preset.t, preset.slots as u16, parts, count, rest)
+}
+
+#[tactic(auto, using(heco_fields::proofs::Steps::reading_then), unfolding(crate::specs::CircuitFormat::outputs))]
+fn all_outputs_at<'a>(
+    alloc: Global,
+    preset: &Preset,
+    inputs: &[Shape],
+    parts: &[u8],
+    bytes: &'a [u8],
+) -> Result<(List<Output>, &'a [u8]), Fault>
+    requires { length inputs.now ≤ 256 }
+    ensures { Gives (λ x. (x.0, x.1.now)) result (reading (outputs preset.now.id inputs.now parts.now) bytes.now) }
+{
+    let (count, rest) = u16_within(bytes, 0, 256 - inputs.len() as u16)?;
+    outputs_at(
+        alloc,
+        preset.t,
+        preset.slots as u16,
+        inputs,
+        parts,
+        count,
+        rest,
+    )
+}
+
+#[tactic(auto, using(heco_fields::proofs::Steps::reading_then), unfolding(crate::specs::CircuitFormat::circuit, heco_fields::specs::Readings::reading))]
+pub fn draft_at(alloc: Global, bytes: &[u8]) -> Result<(Draft, &[u8]), Fault>
+    ensures { Gives (λ x. (plan x.0.preset.id x.0.inputs x.0.gates x.0.outputs, x.1.now)) result (reading circuit bytes.now) }
+{
+    let (id, rest) = header_at(bytes, b"HCIR")?;
+    let preset = preset_of(id);
+    let (inputs, rest) = all_inputs_at(alloc, &preset, rest)?;
+    let parts = input_parts(alloc, inputs.as_slice())?;
+    let ((gates, parts), rest) = all_gates_at(alloc, &preset, parts, rest)?;
+    let (outputs, rest) = all_outputs_at(
+        alloc,
+        &preset,
+        inputs.as_slice(),
+        parts.as_slice(),
+        rest,
+    )?;
+    Ok((
+        Draft {
+            preset,
+            inputs,
+            gates,
+            outputs,
+        },
+        rest,
+    ))
+}
+
+fn preset_of(id: u8) -> Preset
+    requires low { 1 ≤ id }
+    requires high { id ≤ 5 }
+    ensures { result.id ≡ id }
+{
+    match Preset::by_id(id) {
+        Some(preset) => preset,
+        None => unreachable!(),
+    }
+}

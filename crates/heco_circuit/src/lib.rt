@@ -1,0 +1,27 @@
+//! Circuits of gates on batched ciphertexts: when they are valid, their noise bounds, the keys that they need, and
+//! their file.
+#![tactic(auto)]
+
+mod circuit;
+mod draft;
+mod error;
+mod gate;
+mod key_needs;
+mod noise;
+mod quiet;
+mod read_gate;
+mod read_gates;
+mod read_ports;
+mod reading;
+mod writing;
+
+pub use circuit::Circuit;
+pub use error::CirErr;
+pub use gate::{Cell, Gate, Output};
+pub use key_needs::needs;
+pub use quiet::bounds;
+pub use reading::read;
+pub use writing::write;
+
+#[cfg(test)]
+mod tests;

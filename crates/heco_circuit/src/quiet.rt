@@ -1,0 +1,85 @@
+ghost use Rattle.std.specs.Prelude.{◌≡◌, ◌<◌, ◌^◌, All, IsTrue, IfOk, length};
+ghost use Rattle.std.specs.List.{list_all};
+ghost use Rattle.heco_noise.specs.Rows.{IsQuiet};
+ghost use Rattle.heco_circuit.specs.Bounds.{fresh_of, fresh_bounds, wire_bounds, is_below};
+ghost use Rattle.heco_circuit.specs.Noises.{IsNoise};
+
+use crate::circuit::Circuit;
+use crate::gate::Gate;
+use crate::noise::bound_of;
+use heco_noise::{fresh, passes};
+use heco_nums::{List, Memory, Preset, Shape};
+use std::alloc::Global;
+
+/// The bounds of all wires, or the first gate whose bound passes, and its bound.
+#[derive(Debug, Drop)]
+pub enum Noise {
+    Quiet(List<u128>),
+    Passing { gate: u32, bound: u128 },
+}
+
+#[tactic(auto, using(crate::proofs::Sizes::fresh_quiet))]
+fn fresh_of(p: &Preset) -> u128
+    ensures value { result ≡ fresh_of p.now.id }
+    ensures quiet { IsQuiet result }
+{
+    fresh(p)
+}
+
+fn fresh_bounds(alloc: Global, p: &Preset, inputs: &[Shape]) -> Result<List<u128>, Memory>
+    ensures value { IfOk result (λ bounds. bounds ≡ fresh_bounds p.now.id inputs.now) }
+    ensures quiet { IfOk result (λ bounds. All IsQuiet bounds) }
+{
+    let mut bounds = List::new(alloc);
+    let mut rest = inputs;
+    while let [_, after @ ..] = rest {
+        bounds.push(fresh_of(p))?;
+        rest = after;
+    }
+    Ok(bounds)
+}
+
+/// The bound of each wire in turn, until one passes.
+pub fn noise_of(
+    alloc: Global,
+    p: &Preset,
+    inputs: &[Shape],
+    gates: &[Gate],
+) -> Result<Noise, Memory>
+    requires constants { IsTrue (list_all (is_below p.now.t) gates.now) }
+    requires few { length gates.now < 2 ^ 25 }
+    ensures { IfOk result (IsNoise p.now.id inputs.now gates.now) }
+{
+    let mut bounds = fresh_bounds(alloc, p, inputs)?;
+    let mut number = 0u32;
+    let mut rest = gates;
+    while let [gate, after @ ..] = rest {
+        let bound = bound_of(p, bounds.as_slice(), *gate);
+        if passes(bound) {
+            return Ok(Noise::Passing {
+                gate: number,
+                bound,
+            });
+        }
+        bounds.push(bound)?;
+        number += 1;
+        rest = after;
+    }
+    Ok(Noise::Quiet(bounds))
+}
+
+/// The written bound of each wire, the inputs first.
+pub fn bounds(alloc: Global, c: &Circuit) -> Result<List<u128>, Memory>
+    ensures { IfOk result (λ bounds. bounds ≡ wire_bounds c.now.preset c.now.inputs c.now.gates) }
+{
+    let noise = noise_of(
+        alloc,
+        c.preset(),
+        c.inputs().as_slice(),
+        c.gates().as_slice(),
+    )?;
+    match noise {
+        Noise::Quiet(bounds) => Ok(bounds),
+        Noise::Passing { .. } => unreachable!(),
+    }
+}

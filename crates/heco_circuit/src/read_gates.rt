@@ -1,0 +1,59 @@
+ghost use Rattle.std.specs.Prelude.{◌≡◌, ◌≤◌, max, slice_index, IfOk};
+ghost use Rattle.heco_fields.specs.Formats.{many};
+ghost use Rattle.heco_fields.specs.Readings.{Gives, reading};
+ghost use Rattle.heco_fields.specs.Runs.{along};
+ghost use Rattle.heco_circuit.specs.Validity.{parts_of, with_gate};
+ghost use Rattle.heco_circuit.specs.GateFormat.{gate};
+
+use crate::gate::Gate;
+use crate::read_gate::gate_at;
+use heco_fields::Fault;
+use heco_nums::List;
+use std::alloc::Global;
+
+fn part_count(parts: &[u8], wire: u32) -> u8
+    ensures { result ≡ slice_index parts.now wire }
+{
+    match parts.get(wire as usize) {
+        Some(count) => *count,
+        None => 0,
+    }
+}
+
+/// How many parts a gate gives.
+pub fn parts_of(parts: &[u8], gate: Gate) -> u8
+    ensures { result ≡ parts_of parts.now gate }
+{
+    match gate {
+        Gate::Neg { a } | Gate::Scale { c: _, a } | Gate::Shift { c: _, a } => part_count(parts, a),
+        Gate::Add { a, b } => part_count(parts, a).max(part_count(parts, b)),
+        Gate::Mul { .. } => 3,
+        Gate::Relin { .. } | Gate::Turn { .. } => 2,
+    }
+}
+
+/// So many gates behind wires of these parts, and the parts of all wires.
+pub fn gates_at<'a>(
+    alloc: Global,
+    t: u32,
+    slots: u16,
+    inputs: List<u8>,
+    count: u32,
+    bytes: &'a [u8],
+) -> Result<((List<Gate>, List<u8>), &'a [u8]), Fault>
+    requires modulus { 1 ≤ t }
+    requires row { 1 ≤ slots }
+    ensures gates { Gives (λ x. (x.0.0, x.1.now)) result (reading (many (gate t slots) with_gate count inputs) bytes.now) }
+    ensures parts { IfOk result (λ x. x.0.1 ≡ along with_gate inputs x.0.0) }
+{
+    let mut gates = List::new(alloc);
+    let mut parts = inputs;
+    let mut rest = bytes;
+    for _ in 0..count {
+        let (gate, after) = gate_at(t, slots, parts.as_slice(), rest)?;
+        parts.push(parts_of(parts.as_slice(), gate))?;
+        gates.push(gate)?;
+        rest = after;
+    }
+    Ok(((gates, parts), rest))
+}

@@ -1,0 +1,12 @@
+//! The text that shows a circuit, its noise bounds with it.
+#![tactic(auto)]
+
+mod gates;
+mod pieces;
+mod ports;
+mod whole;
+
+pub use whole::listing;
+
+#[cfg(test)]
+mod tests;

@@ -1,0 +1,9 @@
+use Rattle.std.proofs.Common.{◌≡◌, ◌++◌, ◌+◌, ◌-◌, ◌*◌, length, map}
+use Rattle.heco_meaning.specs.Meanings.{sums}
+use Rattle.heco_meaning.proofs.slots.sums.Given as goal
+
+abbrev pub invariant-loop-left : goal.invariant-loop-left
+invariant-loop-left l = l.out ++ sums l.t l.left l.right ≡ sums l.t l.xs l.ys
+
+abbrev pub decreases-loop-left : goal.decreases-loop-left
+decreases-loop-left l = length l.left

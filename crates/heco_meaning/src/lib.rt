@@ -1,0 +1,12 @@
+//! What a circuit means, computed on plain lists of slots: slow, and the measure of every faster way.
+#![tactic(auto)]
+
+mod cells;
+mod slots;
+mod whole;
+mod wires;
+
+pub use whole::meaning;
+
+#[cfg(test)]
+mod tests;
