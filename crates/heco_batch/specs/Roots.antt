@@ -1,0 +1,46 @@
+-- The homes of roots: numbers, or slots of numbered vectors.
+use Rattle.std.specs.Prelude.{ℕ, ◌+◌, ◌<◌, ◌≡◌, true, List, [], ◌∷◌, map, length, slice_index_or}
+use Rattle.heco_written.specs.ScalarTerm.{ScalarTerm, Number}
+use Rattle.heco_written.specs.VectorTerm.{VectorTerm}
+use Rattle.heco_written.specs.WrittenForm.{Home as WrittenHome, Known, At as AtPlace, places, written}
+use Rattle.heco_ir.specs.declared.dialect.NodeId.{NodeId}
+use Rattle.heco_ir.specs.declared.home.Home.{Home}
+use Rattle.heco_ir.specs.declared.home.Home.TheVariants.{Number as NumberHome, At}
+use Rattle.heco_ir.specs.declared.scalar.SNode.{SNode}
+use Rattle.heco_ir.specs.declared.vector.VNode.{VNode}
+use Rattle.heco_ir.specs.Values.{all_below, numbers}
+use Rattle.heco_ir.specs.Terms.{scalar_terms, terms_at}
+
+-- the terms of the roots of a scalar IR
+abbrev pub root_terms : List SNode → List ℕ → List ScalarTerm
+root_terms ns roots = map (λ i. slice_index_or (scalar_terms ns) i (Number 0)) roots
+
+-- the homes of the written forms of terms
+abbrev pub written_homes : ℕ → ℕ → List ScalarTerm → List WrittenHome
+written_homes modulus slots xs = map (λ x. (written modulus slots x).home) xs
+
+-- a number stays, and a place is a slot of the next vector, which are counted from next on
+abbrev pub homes_from : ℕ → List WrittenHome → List Home
+homes_from next [] = []
+homes_from next (Known c ∷ hs) = NumberHome c ∷ homes_from next hs
+homes_from next (AtPlace p ∷ hs) = At next p.slot ∷ homes_from (next + 1) hs
+
+-- the vectors of the places, in order
+abbrev pub vectors_of : List WrittenHome → List VectorTerm
+vectors_of hs = map (λ p. p.vector) (places hs)
+
+abbrev pub HomeFits : ℕ → ℕ → Home → Type 0
+HomeFits slots modulus (NumberHome c) = c < modulus
+HomeFits slots modulus (At root slot) = slot < slots
+
+abbrev pub AllHomesFit : ℕ → ℕ → List Home → Type 0
+AllHomesFit slots modulus [] = Unit {0}
+AllHomesFit slots modulus (h ∷ hs) = HomeFits slots modulus h × AllHomesFit slots modulus hs
+
+-- these roots and homes are those of the written homes
+pub record RootsAre (nodes : List VNode) (slots modulus : ℕ) (roots : List NodeId) (homes : List Home) (hs : List WrittenHome) : Type 0 where
+  pub terms_are : terms_at nodes (numbers roots) ≡ vectors_of hs
+  pub inside : all_below (length nodes) (numbers roots) ≡ true
+  pub count : length roots ≡ length (places hs)
+  pub homes_are : homes ≡ homes_from 0 hs
+  pub fit : AllHomesFit slots modulus homes

@@ -1,0 +1,11 @@
+//! Scalar terms as slots of vectors.
+#![tactic(auto)]
+
+mod batching;
+mod home;
+mod place;
+mod sum;
+mod table;
+mod written;
+
+pub use batching::batch;

@@ -1,0 +1,88 @@
+ghost use Rattle.std.specs.Prelude.{◌≡◌, ℕ, List as Seq, map, true};
+ghost use Rattle.heco_written.specs.World.{World};
+ghost use Rattle.heco_ir.specs.declared.vector.VNode.{VNode};
+ghost use Rattle.heco_ir.specs.Values.{values, all_earlier};
+ghost use Rattle.heco_ir.specs.Vectors.{vector_operands, vector_value, vector_slots};
+ghost use Rattle.heco_ir.specs.Terms.{vector_terms};
+
+use crate::dialect::{Dialect, NodeId};
+
+/// An operation on vectors of slots: input `a`, and slot by slot a negation, a sum, a product, a multiple by `c`, a
+/// constant `c` added; `Turn` brings to each slot what is `r` slots further on.
+#[derive(Clone, Copy, Debug, PartialEq, Eq, Hash)]
+pub enum VNode {
+    Input { a: u32 },
+    Neg { v: NodeId },
+    Add { v: NodeId, w: NodeId },
+    Mul { v: NodeId, w: NodeId },
+    Scale { c: u32, v: NodeId },
+    Shift { c: u32, v: NodeId },
+    Turn { r: u16, v: NodeId },
+}
+
+/// Vectors of slots. The value of a node is the list of its slots modulo t.
+#[derive(Drop)]
+pub struct Vector;
+
+impl Dialect for Vector {
+    type Node = VNode;
+
+    ghost operands_of = { vector_operands };
+
+    ghost value = { vector_value };
+
+    fn operands(n: VNode) -> u32 {
+        match n {
+            VNode::Input { .. } => 0,
+            VNode::Add { .. } => 2,
+            VNode::Mul { .. } => 2,
+            VNode::Neg { .. } => 1,
+            VNode::Scale { .. } => 1,
+            VNode::Shift { .. } => 1,
+            VNode::Turn { .. } => 1,
+        }
+    }
+
+    fn operand(n: VNode, i: u32) -> NodeId {
+        match n {
+            VNode::Input { .. } => unreachable!(),
+            VNode::Add { v, w } => { if i == 0 { v } else { w } }
+            VNode::Mul { v, w } => { if i == 0 { v } else { w } }
+            VNode::Neg { v } => v,
+            VNode::Scale { v, .. } => v,
+            VNode::Shift { v, .. } => v,
+            VNode::Turn { v, .. } => v,
+        }
+    }
+
+    fn with_operand(n: VNode, i: u32, to: NodeId) -> VNode {
+        match n {
+            VNode::Input { .. } => unreachable!(),
+            VNode::Add { v, w } => {
+                if i == 0 {
+                    VNode::Add { v: to, w }
+                } else {
+                    VNode::Add { v, w: to }
+                }
+            }
+            VNode::Mul { v, w } => {
+                if i == 0 {
+                    VNode::Mul { v: to, w }
+                } else {
+                    VNode::Mul { v, w: to }
+                }
+            }
+            VNode::Neg { .. } => VNode::Neg { v: to },
+            VNode::Scale { c, .. } => VNode::Scale { c, v: to },
+            VNode::Shift { c, .. } => VNode::Shift { c, v: to },
+            VNode::Turn { r, .. } => VNode::Turn { r, v: to },
+        }
+    }
+}
+
+/// The value of a vector node is the slots of its term.
+#[tactic(auto, using(crate::proofs::TermValues::vector_values))]
+pub fn vector_nodes_have_their_terms()
+    ensures { (w : World) (ns : Seq VNode) → all_earlier vector_operands 0 ns ≡ true
+        → values vector_operands vector_value w ns ≡ map (vector_slots w) (vector_terms ns) }
+{}

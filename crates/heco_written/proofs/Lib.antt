@@ -1,0 +1,11 @@
+pub mod SlotValues
+pub mod FoldSlots
+pub mod RunSlots
+pub mod WrittenLaw
+pub mod MadeTerms
+pub mod Members
+pub mod Parts
+pub mod FoldTerms
+pub mod RunsPushed
+pub mod Examples
+pub mod Agreement

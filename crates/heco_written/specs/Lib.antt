@@ -1,0 +1,9 @@
+pub mod World
+pub mod ScalarTerm
+pub mod Proper
+pub mod VectorTerm
+pub mod Fold
+pub mod WrittenForm
+pub mod Cost
+pub mod Needs
+pub mod Bound
