@@ -47,7 +47,7 @@ centre_same c = elim (cases_Bool (ltb c (2 ^ 57))) [
   | inr e ↦ rw e (record { by = negsuc 0; is = more_q q (pos c) })
 ]
 
-centre_small : (c : ℕ) → c < q → nat_abs (centre_q c) ≤ q / 2
+pub centre_small : (c : ℕ) → c < q → nat_abs (centre_q c) ≤ q / 2
 unfolding centre_q
 centre_small c h = elim (cases_Bool (ltb c (2 ^ 57))) [
   | inl e ↦ rw e (omega (arith, lines, abs_is, ltb-true c (2 ^ 57) e))

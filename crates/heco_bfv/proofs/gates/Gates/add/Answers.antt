@@ -1,0 +1,45 @@
+use Rattle.std.proofs.Common.{◌≡◌, ◌+◌, ◌≤◌, ◌^◌, max, ℕ, List, length, sym, ap, ◌∙◌, None, Some}
+use lib.IntN.{ℤ}
+use Rattle.heco_scheme.specs.Ciphertexts.{part}
+use Rattle.heco_scheme.specs.Gates.{added}
+use Rattle.heco_ring.specs.Ring.{plus}
+use Rattle.heco_bfv.proofs.Seen.{seen, count_two, count_three, third_long, third_or_long, made_two, made_three}
+use Rattle.heco_scheme.proofs.LinearNoise.{added_noise}
+use Rattle.heco_bfv.proofs.gates.Gates.add.Goals as goal
+use Rattle.heco_bfv.proofs.gates.Gates.add.Goals.{in-Some, in-None}
+
+pub returns-clause-formula : goal.returns-clause-formula
+unfolding added
+returns-clause-formula c =
+    let n : ℕ = c.args.self.now.preset.n in
+    let a = c.args.a.now in
+    let b = c.args.b.now in
+    let A = seen n c.args.a.now c.a.inside.first c.a.inside.second c.a.inside.third c.a.view_is c.requires.a in
+    let B = seen n c.args.b.now c.b.inside.first c.b.inside.second c.b.inside.third c.b.view_is c.requires.b in
+    let O = seen n c.args.out.now c.out.inside.first c.out.inside.second c.out.inside.third c.out.view_is c.requires.out in
+    let f : ℕ → List ℤ = λ i. plus n (part a i) (part b i) in
+    let x = rw (O.first_long, sym A.first, sym B.first) at c.sum.ensures in
+    let y = rw (O.second_long, sym A.second, sym B.second) at c.sum-2.ensures in
+    elim c.match-out.branch [
+      | in-Some w ↦
+          let z = rw (third_long n c.args.out.now c.out.inside.first c.out.inside.second w.in-Some.third c.out.inside.third O w.in-Some.is, sym A.third, sym B.third) at w.sum_third.ensures in
+          rw (w.out-inside-is) (made_three (max (length a) (length b)) n f c.sum.new.out c.sum-2.new.out w.sum_third.new.out (sym c.requires.count ∙ count_three n c.args.out.now c.out.inside.first c.out.inside.second w.in-Some.third c.out.inside.third O w.in-Some.is) x y z)
+      | in-None w ↦ rw (w.out-inside-is, w.in-None.is) (made_two (max (length a) (length b)) n f c.sum.new.out c.sum-2.new.out (sym c.requires.count ∙ count_two n c.args.out.now c.out.inside.first c.out.inside.second c.out.inside.third O w.in-None.is) x y)
+    ]
+
+pub returns-clause-noise : goal.returns-clause-noise
+returns-clause-noise c = λ s m l E F x y. rw (returns-clause-formula c) (added_noise c.args.self.now.preset s c.args.a.now c.args.b.now m l E F x y)
+
+pub sum_third-requires-clause-a : goal.sum_third-requires-clause-a
+sum_third-requires-clause-a c =
+    let n : ℕ = c.args.self.now.preset.n in
+    let A = seen n c.args.a.now c.a.inside.first c.a.inside.second c.a.inside.third c.a.view_is c.requires.a in
+    let O = seen n c.args.out.now c.out.inside.first c.out.inside.second c.out.inside.third c.out.view_is c.requires.out in
+    rw (third_long n c.args.out.now c.out.inside.first c.out.inside.second c.in-Some.third c.out.inside.third O c.in-Some.is) (third_or_long n c.args.a.now c.a.inside.first c.a.inside.second c.a.inside.third A)
+
+pub sum_third-requires-clause-b : goal.sum_third-requires-clause-b
+sum_third-requires-clause-b c =
+    let n : ℕ = c.args.self.now.preset.n in
+    let B = seen n c.args.b.now c.b.inside.first c.b.inside.second c.b.inside.third c.b.view_is c.requires.b in
+    let O = seen n c.args.out.now c.out.inside.first c.out.inside.second c.out.inside.third c.out.view_is c.requires.out in
+    rw (third_long n c.args.out.now c.out.inside.first c.out.inside.second c.in-Some.third c.out.inside.third O c.in-Some.is) (third_or_long n c.args.b.now c.b.inside.first c.b.inside.second c.b.inside.third B)
