@@ -1,7 +1,7 @@
 -- What is read is what was spelled, and what is spelled is read, part by part of a format.
 use Rattle.std.proofs.Common.{◌≡◌, ℕ, ◌+◌, ◌<◌, List, [], ◌++◌, get_or, take, drop, Result, Ok, Err, refl, sym, ap, subst, ◌∙◌, append_assoc, arith, inl, inr}
 use Rattle.std.proofs.lemmas.Bool.{cases_lt}
-use Rattle.std.proofs.lemmas.List.{length-take, get_or-drop, get_or-take, get_or_past}
+use Rattle.std.proofs.lemmas.List.{append-nil, length-take, get_or-drop, get_or-take, get_or_past}
 use Rattle.heco_fields.specs.Formats.{Format, Value, ◌>>=◌ as ◌then◌}
 use Rattle.heco_fields.specs.Readings.{reading, ◌>>=◌}
 use Rattle.heco_fields.proofs.Steps.{reading_then}
@@ -86,3 +86,10 @@ skip_law {A = A} {B = B} f k text v spell Fits skipped law =
     (then_law f (λ _. k) (λ _. text) spell (λ (x : A). v ≡ x) (λ (x : A) (y : B). (v ≡ x) × Fits y) (λ _. v) skipped
     (λ x h. same_law k spell spell Fits (λ y. (v ≡ x) × Fits y) law (λ y _. refl) (λ y g. (h, g)) (λ y g. g.1)) (λ x y h. h.0))
     (λ y _. refl) (λ y h. h.1.1) (λ y g. (refl, (refl, g)))
+
+-- a last part x, and then a value made of it
+pub last_law : {A B : Type 0} (f : Format A) (make : A → B) (part : B → A) (spell : A → List ℕ) (Fits : A → Type 0) → Law f spell Fits → ((x : A) → part (make x) ≡ x) → Law (f then λ x. Value (make x)) (λ y. spell (part y)) (λ y. Fits (part y) × (make (part y) ≡ y))
+last_law {A = A} {B = B} f make part spell Fits law again =
+    same_law (f then λ x. Value (make x)) (λ y. spell (part y) ++ []) (λ y. spell (part y)) (λ (y : B). Fits (part y) × (make (part y) ≡ y)) (λ (y : B). Fits (part y) × (make (part y) ≡ y))
+    (then_law f (λ x. Value (make x)) spell (λ _. []) Fits (λ (x : A) (y : B). make x ≡ y) part law (λ x _. value_law (make x)) (λ x y e. ap part (sym e) ∙ again x))
+    (λ y _. append-nil (spell (part y))) (λ y h. h) (λ y h. h)

@@ -5,7 +5,9 @@ use Rattle.std.specs.List.{flat_map}
 use Rattle.std.proofs.lemmas.List.Concat.{flat_map-cons}
 use Rattle.heco_fields.specs.Formats.{Format, Value, many, ◌>>=◌ as ◌then◌}
 use Rattle.heco_fields.specs.Readings.{reading, ◌>>=◌}
-use Rattle.heco_fields.specs.Runs.{FitAlong, all_along}
+use Rattle.std.specs.List.{All}
+use Rattle.std.proofs.lemmas.List.Elements.{All-nil, All-cons, All-head, All-tail}
+use Rattle.heco_fields.specs.Runs.{stays, FitAlong, all_along}
 use Rattle.heco_fields.proofs.Bools.{both_true}
 use Rattle.heco_fields.proofs.Steps.{reading_then}
 use Rattle.heco_fields.proofs.Laws.{IsBytes, Takes, Takes-then, Law, ok_is, bind_ok, then_law, same_law}
@@ -78,3 +80,20 @@ passes_along Fits test next Holds keeps from s [] holds h = tt
 passes_along Fits test next Holds keeps from s (x ∷ xs) holds h =
     let b = both_true (test s x) (all_along test next (next s x) xs) h in
     (from (length xs) s x holds b.0, passes_along Fits test next Holds keeps from (next s x) xs (keeps (length xs) s x holds) b.1)
+
+-- ---- values that each fit by themselves
+
+all_from_fit : {S A : Type 0} (F : A → Type 0) (s : S) (xs : List A) → FitAlong (λ s x. F x) stays s xs → All F xs
+unfolding FitAlong
+all_from_fit F s [] fits = All-nil F
+all_from_fit F s (x ∷ xs) fits = All-cons F x xs fits.0 (all_from_fit F s xs fits.1)
+
+fit_from_all : {S A : Type 0} (F : A → Type 0) (s : S) (xs : List A) → All F xs → FitAlong (λ s x. F x) stays s xs
+unfolding FitAlong
+fit_from_all F s [] h = tt
+fit_from_all F s (x ∷ xs) h = (All-head F x xs h, fit_from_all F s xs (All-tail F x xs h))
+
+pub each_law : {S A : Type 0} (format : S → Format A) (spell : A → List ℕ) (F : A → Type 0) → ((s : S) → Law (format s) spell F) → (n : ℕ) (s : S) → Law (many format stays n s) (flat_map spell) (λ xs. (length xs ≡ n) × All F xs)
+each_law {S = S} {A = A} format spell F law n s =
+    same_law (many format stays n s) (flat_map spell) (flat_map spell) (λ xs. (length xs ≡ n) × FitAlong (λ (s : S) (x : A). F x) stays s xs) (λ xs. (length xs ≡ n) × All F xs)
+    (many_law format stays spell (λ (s : S) (x : A). F x) law n s) (λ xs _. refl) (λ xs h. (h.0, all_from_fit F s xs h.1)) (λ xs h. (h.0, fit_from_all F s xs h.1))

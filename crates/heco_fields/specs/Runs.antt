@@ -1,6 +1,10 @@
 -- Values in a row, each judged by a state of those before it.
 use Rattle.std.specs.Prelude.{Bool, true, ◌&&◌, List, [], ◌∷◌}
 
+-- a state that no value changes
+abbrev pub stays : {S A : Type 0} → S → A → S
+stays s x = s
+
 -- the state behind these values
 abbrev pub along : {S A : Type 0} → (S → A → S) → S → List A → S
 along next s [] = s

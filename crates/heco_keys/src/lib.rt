@@ -1,0 +1,21 @@
+//! Keys: the secret key, the evaluation key with its switch keys, and how they are made from key material.
+#![tactic(auto)]
+
+mod coefficients;
+mod eval;
+mod make_switch;
+mod making;
+mod masked;
+mod secret;
+mod sources;
+mod switch_key;
+
+pub use coefficients::poly_of;
+pub use eval::Eval;
+pub use making::make;
+pub use secret::Secret;
+pub use sources::exponent;
+pub use switch_key::SwitchKey;
+
+#[cfg(test)]
+mod tests;

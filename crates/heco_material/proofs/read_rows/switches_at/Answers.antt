@@ -1,0 +1,23 @@
+use Rattle.std.proofs.lemmas.Result.{err_from_is_err_and}
+use Rattle.heco_fields.specs.Formats.{many}
+use Rattle.heco_fields.specs.Runs.{stays}
+use Rattle.heco_fields.specs.Readings.{reading}
+use Rattle.heco_fields.proofs.Loops.{goes_on, fails, is_done}
+use Rattle.heco_material.specs.KeyFormat.{switch, switches}
+use Rattle.heco_material.proofs.read_rows.switches_at.Goals as goal
+
+pub returns-in_err-switch : goal.returns-in_err-switch
+unfolding switches
+returns-in_err-switch c =
+    let p = err_from_is_err_and c.from_residual.result c.from_residual.ensures.1 in
+    rw (p.1, p.2) (fails c.in_err-switch.field-0.0 (switch c.args.p.now.n c.args.p.now.b) stays c.loop.switches c.args.count c.loop.counter 0 c.loop.rest.now (reading (many (switch c.args.p.now.n c.args.p.now.b) stays c.args.count 0) c.args.bytes.now) c.loop-test.true c.in_err-switch.ensures c.loop.invariant.read)
+
+pub returns : goal.returns
+unfolding switches
+returns c = is_done (switch c.args.p.now.n c.args.p.now.b) stays c.loop.switches c.args.count c.loop.counter 0 c.loop.rest.now (reading (many (switch c.args.p.now.n c.args.p.now.b) stays c.args.count 0) c.args.bytes.now) c.loop-test.false c.loop.invariant.read
+
+pub loop-preserved : goal.loop-preserved
+loop-preserved c =
+    record {
+      read = rw (c.in_ok-push.ensures.ok) (goes_on (switch c.args.p.now.n c.args.p.now.b) stays c.loop.switches c.args.count c.loop.counter 0 c.loop.rest.now c.in_ok-switch.switch c.in_ok-switch.after.now (reading (many (switch c.args.p.now.n c.args.p.now.b) stays c.args.count 0) c.args.bytes.now) c.loop-test.true c.in_ok-switch.ensures c.loop.invariant.read);
+    }

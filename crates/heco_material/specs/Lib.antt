@@ -1,0 +1,5 @@
+pub mod KeyLists
+pub mod KeyFormat
+pub mod EncFormat
+pub mod MaterialFile
+pub mod Drawn
