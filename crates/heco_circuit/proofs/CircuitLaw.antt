@@ -8,7 +8,7 @@ use Rattle.std.proofs.lemmas.Bool.{eqb-true, leb-true, le-leb}
 use Rattle.heco_nums.specs.Presets.{modulus_of, slots_of}
 use Rattle.heco_nums.specs.declared.shape.Shape.{Shape}
 use Rattle.heco_fields.specs.Formats.{Format, Value, within, many, header, header_text, ◌>>=◌ as ◌then◌}
-use Rattle.heco_fields.specs.Runs.{along, all_along}
+use Rattle.heco_fields.specs.Runs.{along, all_along, stays}
 use Rattle.heco_fields.proofs.Laws.{Law, value_law, then_law, same_law}
 use Rattle.heco_fields.specs.Runs.{FitAlong}
 use Rattle.heco_fields.proofs.FieldLaws.{number_law, header_law, wide8, wide16, wide32}
@@ -16,7 +16,7 @@ use Rattle.heco_fields.proofs.ManyLaws.{Counted, counted_law}
 use Rattle.heco_circuit.specs.declared.gate.Gate.{Gate}
 use Rattle.heco_circuit.specs.declared.gate.Output.{Output}
 use Rattle.heco_circuit.specs.Validity.{is_between, with_gate, is_gate}
-use Rattle.heco_circuit.specs.Plans.{Plan, push, stays, input_parts, wire_parts, is_formed}
+use Rattle.heco_circuit.specs.Plans.{Plan, push, input_parts, wire_parts, is_formed}
 use Rattle.heco_circuit.specs.GateFormat.{gate, gate_text}
 use Rattle.heco_circuit.specs.CircuitFormat.{inputs, gates, outputs, input, output, plan, circuit, input_text, output_text, inputs_text, gates_text, outputs_text, circuit_text}
 use Rattle.heco_fields.proofs.Bools.{both_true, and_true}

@@ -6,7 +6,7 @@ use Rattle.std.proofs.lemmas.Bool.{leb-true, ltb-true}
 use Rattle.std.proofs.lemmas.Bool.Decides.{nat_tests}
 use Rattle.heco_nums.specs.Presets.{modulus_of, slots_of}
 use Rattle.heco_nums.specs.declared.shape.Shape.{Shape}
-use Rattle.heco_fields.specs.Runs.{along, all_along}
+use Rattle.heco_fields.specs.Runs.{along, all_along, stays}
 use Rattle.heco_fields.specs.Runs.{FitAlong}
 use Rattle.heco_fields.proofs.ManyLaws.{along_passes, passes_along}
 use Rattle.heco_circuit.specs.declared.gate.Cell.{Cell}
@@ -15,7 +15,7 @@ use Rattle.heco_circuit.specs.declared.gate.Gate.{Gate}
 use Rattle.heco_circuit.specs.declared.gate.Gate.TheVariants.{Neg, Add, Mul, Relin, Scale, Shift, Turn}
 use Rattle.heco_circuit.specs.declared.gate.Output.{Output}
 use Rattle.heco_circuit.specs.Validity.{is_between, is_wire, has_parts, is_gate, parts_of, with_gate}
-use Rattle.heco_circuit.specs.Plans.{Plan, push, stays, is_new, is_name, is_input, is_cell, is_output, input_parts, wire_parts, are_inputs, are_gates, are_outputs, is_formed}
+use Rattle.heco_circuit.specs.Plans.{Plan, push, is_new, is_name, is_input, is_cell, is_output, input_parts, wire_parts, are_inputs, are_gates, are_outputs, is_formed}
 use Rattle.heco_fields.proofs.Bools.{both_true, and_true}
 use Rattle.heco_circuit.proofs.GateLaws.{MayStand, IsNarrow}
 use Rattle.heco_circuit.proofs.PortLaws.{IsOwnName, IsInput, IsCell, IsOutput}

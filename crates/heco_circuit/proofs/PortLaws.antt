@@ -9,14 +9,14 @@ use Rattle.heco_nums.specs.declared.shape.Shape.{Shape}
 use Rattle.heco_nums.specs.Words.{is_word}
 use Rattle.heco_fields.specs.Formats.{Format, Value, Field, number, within, many, ◌>>=◌ as ◌then◌}
 use Rattle.heco_fields.proofs.Laws.{Law, value_law, then_law, same_law}
-use Rattle.heco_fields.specs.Runs.{FitAlong}
+use Rattle.heco_fields.specs.Runs.{FitAlong, stays}
 use Rattle.heco_fields.proofs.FieldLaws.{bytes_law, number_law, wide8, wide16, wide32}
 use Rattle.heco_fields.proofs.ManyLaws.{many_law}
 use Rattle.heco_circuit.specs.declared.gate.Cell.{Cell}
 use Rattle.heco_circuit.specs.declared.gate.Cell.TheVariants.{Number, Slot}
 use Rattle.heco_circuit.specs.declared.gate.Output.{Output}
 use Rattle.heco_circuit.specs.Validity.{has_parts, is_between}
-use Rattle.heco_circuit.specs.Plans.{is_new, names_input, names_output, push, stays, is_cell}
+use Rattle.heco_circuit.specs.Plans.{is_new, names_input, names_output, push, is_cell}
 use Rattle.heco_circuit.specs.GateFormat.{wire_of}
 use Rattle.heco_fields.proofs.Bools.{both_true, and_true}
 use Rattle.heco_circuit.specs.CircuitFormat.{name, input, number_cell, slot_cell, cell, output, name_text, input_text, cell_text, output_text}

@@ -5,14 +5,14 @@ use Rattle.std.specs.Int.{w8, w16, w32, to_be_bytes}
 use Rattle.heco_nums.specs.Presets.{modulus_of, slots_of}
 use Rattle.heco_nums.specs.declared.shape.Shape.{Shape}
 use Rattle.heco_fields.specs.Formats.{Format, Value, Field, number, within, header, header_text, many, ◌>>=◌}
-use Rattle.heco_fields.specs.Runs.{along}
+use Rattle.heco_fields.specs.Runs.{along, stays}
 use Rattle.heco_circuit.specs.declared.gate.Cell.{Cell}
 use Rattle.heco_circuit.specs.declared.gate.Cell.TheVariants.{Number, Slot}
 use Rattle.heco_circuit.specs.declared.gate.Gate.{Gate}
 use Rattle.heco_circuit.specs.declared.gate.Output.{Output}
 use Rattle.heco_circuit.specs.Validity.{with_gate}
 use Rattle.heco_circuit.specs.GateFormat.{wire_of, gate, gate_text}
-use Rattle.heco_circuit.specs.Plans.{Plan, is_new, push, stays, input_parts}
+use Rattle.heco_circuit.specs.Plans.{Plan, is_new, push, input_parts}
 
 -- its length, and its bytes
 unfoldable pub name : List Shape → List Output → Format (List ℕ)

@@ -46,10 +46,6 @@ is_output t slots inputs parts earlier o = is_name inputs earlier o.name && (is_
 abbrev pub push : {A : Type 0} → List A → A → List A
 push xs x = xs ++ x ∷ []
 
--- a state that no value changes
-abbrev pub stays : {S A : Type 0} → S → A → S
-stays s x = s
-
 -- two parts for each input
 abbrev pub input_parts : {A : Type 0} → List A → List ℕ
 input_parts [] = []
