@@ -1,0 +1,4 @@
+pub mod Headers
+pub mod Judged
+pub mod TurnLaws
+pub mod EvalLaws

@@ -1,0 +1,17 @@
+//! The files of the secret key and of the evaluation key.
+#![tactic(auto)]
+
+mod error;
+mod evaluation;
+mod header;
+mod read_key;
+mod read_switch;
+mod secret;
+mod writing;
+
+pub use error::FileErr;
+pub use evaluation::read_eval;
+pub use header::{behind_header, place};
+pub use read_switch::poly_at;
+pub use secret::{read_secret, write_secret};
+pub use writing::{put_poly, write_eval};
