@@ -1,7 +1,7 @@
 -- The parts to which a constant is added.
 use Prim.Native.Nat.{ℕ, ◌<◌}
 use native.Mathlib.Omega.{arith}
-use mathlib.Core.Path.{◌≡◌, refl, sym, ap, ◌∙◌}
+use mathlib.Core.Path.{◌≡◌, refl, ap, ◌∙◌}
 use mathlib.Core.Logic.{inl, inr}
 use mathlib.Core.Bool.{cond}
 use mathlib.Core.List.{List, []}
@@ -12,7 +12,7 @@ use Rattle.std.specs.Prelude.{replicate, ◌≢◌}
 use Rattle.std.proofs.lemmas.Bool.{cases_eq, ne_eqb}
 use Rattle.std.proofs.lemmas.List.{get_or-replicate, get_or-set_same, get_or-set_other, length-replicate}
 use Rattle.heco_ring.specs.Remainders.{reduced, Same}
-use Rattle.heco_ring.specs.Ring.{at, wholes, plus, constant}
+use Rattle.heco_ring.specs.Ring.{wholes, plus, constant}
 use Rattle.heco_ring.proofs.Congruence.{same_refl, same_plus}
 use Rattle.heco_ring.proofs.Pairing.{at-table}
 use Rattle.heco_ring.proofs.Reduced.{reduced_same}

@@ -1,3 +1,11 @@
 pub mod Constants
+pub mod EncryptSteps
+pub mod MadeKeys
+pub mod MessageSlots
 pub mod Numbers
+pub mod PhaseSteps
+pub mod Picks
+pub mod RoundTrip
 pub mod Seen
+pub mod Shapes
+pub mod SwitchSteps

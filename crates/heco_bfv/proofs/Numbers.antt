@@ -1,5 +1,5 @@
 -- The sizes of centred constants and of scaled ones.
-use Prim.Native.Nat.{ℕ, ◌+◌, ◌*◌, ◌/◌, ◌^◌, ◌<◌, ◌≤◌}
+use Prim.Native.Nat.{ℕ, ◌+◌, ◌*◌, ◌^◌, ◌<◌, ◌≤◌}
 use native.Mathlib.Omega.{arith}
 use native.Mathlib.Nat.{div-lt_iff_lt-mul, mul-le-mul_left}
 use mathlib.Core.Logic.{inl, inr}

@@ -1,7 +1,7 @@
 -- What is known of a ciphertext whose parts are these.
-use Prim.Native.Nat.{ℕ, zero, suc, ◌<◌, ◌^◌}
+use Prim.Native.Nat.{ℕ, zero, suc, ◌<◌}
 use native.Mathlib.Omega.{arith}
-use mathlib.Core.Path.{◌≡◌, refl, sym, ap, ◌∙◌}
+use mathlib.Core.Path.{◌≡◌, refl, ap, ◌∙◌}
 use mathlib.Core.List.{List, [], ◌∷◌}
 use lib.IntN.{ℤ, pos}
 use lib.ListN.{length, get_or}

@@ -1,5 +1,6 @@
 ghost use Rattle.std.specs.Prelude.{◌≡◌, ◌<◌, ◌≤◌, ◌⊎◌, ℕ, List, length, IfOk, [], ◌∷◌, replicate};
 ghost use lib.ListN.{get_or};
+ghost use Rattle.heco_scheme.specs.Ciphertexts.{IsCiphertext};
 
 use heco_nums::{Memory, Preset};
 use heco_poly::Poly;
@@ -28,7 +29,8 @@ impl Ct {
     /// Zeros, for two or three parts; Memory where there is none.
     pub fn zero(alloc: Global, p: &Preset, parts: u32) -> Result<Ct, Memory>
         requires { (parts ≡ 2) ⊎ (parts ≡ 3) }
-        ensures { IfOk result (λ c. c ≡ replicate parts (replicate p.now.n 0)) }
+        ensures value { IfOk result (λ c. c ≡ replicate parts (replicate p.now.n 0)) }
+        ensures ciphertext { IfOk result (λ c. IsCiphertext p.now.n c) }
     {
         let first = Poly::zero(alloc, p)?;
         let second = Poly::zero(alloc, p)?;
@@ -46,7 +48,8 @@ impl Ct {
 
     /// The ciphertext of these two parts.
     pub fn of(c0: Poly, c1: Poly) -> Ct
-        ensures { result ≡ c0 ∷ c1 ∷ [] }
+        ensures value { result ≡ c0 ∷ c1 ∷ [] }
+        ensures ciphertext { (n : ℕ) → length c0 ≡ n → length c1 ≡ n → IsCiphertext n result }
     {
         Ct {
             first: c0,

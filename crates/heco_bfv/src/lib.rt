@@ -1,15 +1,29 @@
-//! The gates on ciphertexts of the scheme of Fan and Vercauteren. No gate takes memory, and each always succeeds.
+//! Encryption, decryption and the gates of the scheme of Fan and Vercauteren. No gate takes memory, and each always
+//! succeeds; nor does decryption.
 #![tactic(auto)]
 
 mod add;
 mod ciphertext;
+mod decryption;
+mod encryption;
 mod gates;
+mod kernel;
+mod laws;
 mod linear;
 mod mul;
 mod neg;
+mod relin;
+mod round_trip;
 mod scale;
 mod shift;
 mod sub;
+mod switching;
+mod turn;
+mod words;
 
 pub use ciphertext::Ct;
+pub use decryption::{Scratch, decrypt};
+pub use encryption::encrypt;
 pub use gates::Gates;
+pub use laws::{decryption_inverts_encryption, made_keys_are_keys, slots_of_the_messages};
+pub use round_trip::decrypt_after_encrypt;

@@ -14,6 +14,8 @@ impl Gates {
         requires out { IsCiphertext self.old.preset.n out.old }
         requires count { length out.old ≡ length a.now }
         ensures preset { self.new.preset ≡ self.old.preset }
+        ensures ciphertext { IsCiphertext self.old.preset.n out.new }
+        ensures count { length out.new ≡ length out.old }
         ensures formula { out.new ≡ gate.negated self.old.preset a.now }
         ensures noise { (s : List ℤ) (m : List ℕ) (E : ℕ) → noise self.old.preset s a.now m ≤ E → noise self.old.preset s out.new (message.opposite self.old.preset m) ≤ E }
     {

@@ -16,6 +16,8 @@ impl Gates {
         requires out { IsCiphertext self.old.preset.n out.old }
         requires count { length out.old ≡ max (length a.now) (length b.now) }
         ensures preset { self.new.preset ≡ self.old.preset }
+        ensures ciphertext { IsCiphertext self.old.preset.n out.new }
+        ensures count { length out.new ≡ length out.old }
         ensures formula { out.new ≡ gate.subtracted self.old.preset a.now b.now }
         ensures noise { (s : List ℤ) (m l : List ℕ) (E F : ℕ) → noise self.old.preset s a.now m ≤ E → noise self.old.preset s b.now l ≤ F → noise self.old.preset s out.new (message.difference self.old.preset m l) ≤ row.added E F }
     {

@@ -1,10 +1,11 @@
-use Rattle.std.proofs.Common.{◌≡◌, ◌+◌, ◌≤◌, ◌^◌, max, ℕ, List, length, sym, ap, ◌∙◌, None, Some}
+use Rattle.std.proofs.Common.{max, ℕ, List, length, sym, ap, ◌∙◌}
 use lib.IntN.{ℤ}
 use Rattle.heco_scheme.specs.Ciphertexts.{part}
 use Rattle.heco_scheme.specs.Gates.{added}
 use Rattle.heco_ring.specs.Ring.{plus}
 use Rattle.heco_bfv.proofs.Seen.{seen, count_two, count_three, third_long, third_or_long, made_two, made_three}
 use Rattle.heco_scheme.proofs.LinearNoise.{added_noise}
+use Rattle.heco_bfv.proofs.Shapes.{added_ciphertext, added_count}
 use Rattle.heco_bfv.proofs.gates.Gates.add.Goals as goal
 use Rattle.heco_bfv.proofs.gates.Gates.add.Goals.{in-Some, in-None}
 
@@ -43,3 +44,9 @@ sum_third-requires-clause-b c =
     let B = seen n c.args.b.now c.b.inside.first c.b.inside.second c.b.inside.third c.b.view_is c.requires.b in
     let O = seen n c.args.out.now c.out.inside.first c.out.inside.second c.out.inside.third c.out.view_is c.requires.out in
     rw (third_long n c.args.out.now c.out.inside.first c.out.inside.second c.in-Some.third c.out.inside.third O c.in-Some.is) (third_or_long n c.args.b.now c.b.inside.first c.b.inside.second c.b.inside.third B)
+
+pub returns-clause-ciphertext : goal.returns-clause-ciphertext
+returns-clause-ciphertext c = rw (returns-clause-formula c) (added_ciphertext c.args.self.now.preset c.args.a.now c.args.b.now (rw c.requires.count at c.requires.out.count))
+
+pub returns-clause-count : goal.returns-clause-count
+returns-clause-count c = ap length (returns-clause-formula c) ∙ added_count c.args.self.now.preset c.args.a.now c.args.b.now ∙ sym c.requires.count

@@ -1,7 +1,8 @@
-use Rattle.std.proofs.Common.{◌≡◌, ℕ, List, length}
+use Rattle.std.proofs.Common.{◌∙◌, ap, length}
 use Rattle.heco_nums.specs.declared.preset.Preset.{Preset}
 use Rattle.heco_bfv.proofs.Seen.{seen, at_first, at_second, two_parts}
 use Rattle.heco_scheme.proofs.ProductNoise.{multiplied_is, multiplied_noise}
+use Rattle.heco_bfv.proofs.Shapes.{multiplied_ciphertext, multiplied_count}
 use Rattle.heco_bfv.proofs.gates.Gates.mul.Goals as goal
 
 pub returns-in-Some-clause-formula : goal.returns-in-Some-clause-formula
@@ -22,3 +23,9 @@ returns-in-Some-clause-noise c = λ s m l E F hs hE hF x y.
     rw (returns-in-Some-clause-formula c) (multiplied_noise p s c.args.a.now c.args.b.now m l E F hs
     (two_parts p.n c.args.a.now c.a.inside.first c.a.inside.second c.a.inside.third A c.requires.a_two c.as_slice.ensures.below c.as_slice-2.ensures.below)
     (two_parts p.n c.args.b.now c.b.inside.first c.b.inside.second c.b.inside.third B c.requires.b_two c.as_slice-3.ensures.below c.as_slice-4.ensures.below) hE hF x y)
+
+pub returns-in-Some-clause-ciphertext : goal.returns-in-Some-clause-ciphertext
+returns-in-Some-clause-ciphertext c = rw (returns-in-Some-clause-formula c) (multiplied_ciphertext c.args.self.now.preset c.args.a.now c.args.b.now)
+
+pub returns-in-Some-clause-count : goal.returns-in-Some-clause-count
+returns-in-Some-clause-count c = ap length (returns-in-Some-clause-formula c) ∙ multiplied_count c.args.self.now.preset c.args.a.now c.args.b.now

@@ -1,10 +1,11 @@
-use Rattle.std.proofs.Common.{◌≡◌, ◌^◌, ℕ, List, length, sym, ap, ◌∙◌, None, Some}
+use Rattle.std.proofs.Common.{ℕ, List, length, sym, ap, ◌∙◌}
 use lib.IntN.{ℤ}
 use Rattle.heco_scheme.specs.Ciphertexts.{part}
 use Rattle.heco_scheme.specs.Gates.{negated}
 use Rattle.heco_ring.specs.Ring.{negate}
-use Rattle.heco_bfv.proofs.Seen.{seen, count_two, count_three, third_long, third_or_long, made_two, made_three}
+use Rattle.heco_bfv.proofs.Seen.{seen, count_two, count_three, third_long, made_two, made_three}
 use Rattle.heco_scheme.proofs.LinearNoise.{negated_noise}
+use Rattle.heco_bfv.proofs.Shapes.{negated_ciphertext, negated_count}
 use Rattle.heco_bfv.proofs.gates.Gates.neg.Goals as goal
 use Rattle.heco_bfv.proofs.gates.Gates.neg.Goals.{in-Some, in-None}
 
@@ -26,3 +27,9 @@ returns-clause-formula c =
 
 pub returns-clause-noise : goal.returns-clause-noise
 returns-clause-noise c = λ s m E x. rw (returns-clause-formula c) (negated_noise c.args.self.now.preset s c.args.a.now m E x)
+
+pub returns-clause-ciphertext : goal.returns-clause-ciphertext
+returns-clause-ciphertext c = rw (returns-clause-formula c) (negated_ciphertext c.args.self.now.preset c.args.a.now c.requires.a.count)
+
+pub returns-clause-count : goal.returns-clause-count
+returns-clause-count c = ap length (returns-clause-formula c) ∙ negated_count c.args.self.now.preset c.args.a.now ∙ sym c.requires.count

@@ -1,4 +1,4 @@
-use Rattle.std.proofs.Common.{rules, ◌≡◌, ◌^◌, ℕ, List, length, sym, ap, ◌∙◌, None, Some, SFits, to_z-of_z}
+use Rattle.std.proofs.Common.{rules, ℕ, List, length, sym, ap, ◌∙◌, SFits, to_z-of_z}
 use mir.Syntax.{w64}
 use lib.IntN.{ℤ}
 use Rattle.heco_scheme.specs.Ciphertexts.{part}
@@ -7,6 +7,7 @@ use Rattle.heco_nums.specs.Arithmetic.{centre_t}
 use Rattle.heco_ring.specs.Ring.{scale}
 use Rattle.heco_bfv.proofs.Seen.{seen, count_two, count_three, third_long, made_two, made_three}
 use Rattle.heco_scheme.proofs.LinearNoise.{scaled_noise}
+use Rattle.heco_bfv.proofs.Shapes.{scaled_ciphertext, scaled_count}
 use Rattle.heco_bfv.proofs.gates.Gates.scale.Goals as goal
 use Rattle.heco_bfv.proofs.gates.Gates.scale.Goals.{in-Some, in-None}
 
@@ -33,3 +34,9 @@ returns-clause-formula c =
 
 pub returns-clause-noise : goal.returns-clause-noise
 returns-clause-noise c = λ s m E x. rw (returns-clause-formula c) (scaled_noise c.args.self.now.preset s c.args.c c.args.a.now m E x)
+
+pub returns-clause-ciphertext : goal.returns-clause-ciphertext
+returns-clause-ciphertext c = rw (returns-clause-formula c) (scaled_ciphertext c.args.self.now.preset c.args.c c.args.a.now c.requires.a.count)
+
+pub returns-clause-count : goal.returns-clause-count
+returns-clause-count c = ap length (returns-clause-formula c) ∙ scaled_count c.args.self.now.preset c.args.c c.args.a.now ∙ sym c.requires.count

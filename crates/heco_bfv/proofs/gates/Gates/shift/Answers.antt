@@ -1,4 +1,4 @@
-use Rattle.std.proofs.Common.{◌≡◌, ◌^◌, ◌<◌, ℕ, List, [], length, arith, sym, ap, ◌∙◌, None, Some}
+use Rattle.std.proofs.Common.{ℕ, List, [], length, sym, ap, ◌∙◌}
 use lib.IntN.{ℤ, pos}
 use mathlib.Core.Bool.{cond}
 use lib.Dec.{eqb}
@@ -9,6 +9,7 @@ use Rattle.heco_ring.specs.Ring.{plus, constant}
 use Rattle.heco_bfv.proofs.Constants.{shift_first, shift_second, shift_third}
 use Rattle.heco_bfv.proofs.Seen.{seen, count_two, count_three, count_some, third_long, third_or_long, made_two, made_three}
 use Rattle.heco_scheme.proofs.LinearNoise.{shifted_noise}
+use Rattle.heco_bfv.proofs.Shapes.{shifted_ciphertext, shifted_count}
 use Rattle.heco_bfv.proofs.gates.Gates.shift.Goals as goal
 use Rattle.heco_bfv.proofs.gates.Gates.shift.Goals.{in-Some, in-None}
 
@@ -43,3 +44,9 @@ sum_third-requires-clause-a c =
     let A = seen n c.args.a.now c.a.inside.first c.a.inside.second c.a.inside.third c.a.view_is c.requires.a in
     let O = seen n c.args.out.now c.out.inside.first c.out.inside.second c.out.inside.third c.out.view_is c.requires.out in
     rw (third_long n c.args.out.now c.out.inside.first c.out.inside.second c.in-Some.third c.out.inside.third O c.in-Some.is) (third_or_long n c.args.a.now c.a.inside.first c.a.inside.second c.a.inside.third A)
+
+pub returns-clause-ciphertext : goal.returns-clause-ciphertext
+returns-clause-ciphertext c = rw (returns-clause-formula c) (shifted_ciphertext c.args.self.now.preset c.args.c c.args.a.now c.requires.a.count)
+
+pub returns-clause-count : goal.returns-clause-count
+returns-clause-count c = ap length (returns-clause-formula c) ∙ shifted_count c.args.self.now.preset c.args.c c.args.a.now ∙ sym c.requires.count
