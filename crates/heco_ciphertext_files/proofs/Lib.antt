@@ -1,0 +1,4 @@
+pub mod CountLaws
+pub mod Counted
+pub mod CiphertextLaws
+pub mod Files

@@ -1,0 +1,2 @@
+pub mod CiphertextFiles
+pub mod Counted
