@@ -1,11 +1,11 @@
 -- Nodes that stand once are as many as their gates and their inputs.
 use Rattle.std.proofs.Common.{◌≡◌, ℕ, zero, suc, ◌+◌, ◌<◌, ◌≤◌, List, [], ◌∷◌, length, refl, ap, sym, ◌∙◌, arith, get_or, ◌⊎◌, inl, inr}
-use Rattle.std.specs.Prelude.{slice_get, Some, Contains}
+use Rattle.std.specs.Prelude.{Some}
 use Rattle.std.proofs.lemmas.Option.{slice_get-get_or}
 use Rattle.heco_written.proofs.Members.{Member, Distinct, distinct_places, total, total_within}
 use Rattle.heco_ir.specs.declared.scalar.SNode.{SNode}
 use Rattle.heco_ir.specs.declared.vector.VNode.{VNode}
-use Rattle.heco_ir.specs.declared.vector.VNode.TheVariants.{Input, Neg, Add, Mul, Scale, Shift, Turn}
+use Rattle.heco_ir.specs.declared.vector.VNode.TheVariants.{Input, Mul}
 use Rattle.heco_ir.specs.Ranges.{Fits, AllFit, node_gates, gates_of_nodes}
 use Rattle.heco_ir.specs.Used.{EachOnce}
 use Rattle.heco_batch.specs.Table.{AllElementsBelow}

@@ -1,5 +1,4 @@
-use Rattle.std.proofs.Common.{◌≡◌, ℕ, zero, suc, Bool, true, false, ◌||◌, ◌<◌, ◌%◌, List, refl, ap, sym, ◌∙◌, arith, length}
-use Rattle.std.specs.Prelude.{slice_get, Some}
+use Rattle.std.proofs.Common.{◌≡◌, ℕ, zero, suc, Bool, true, false, ◌||◌, ◌<◌, List, refl, ap, sym, ◌∙◌, arith}
 use Rattle.std.proofs.Math.Nat.{mod-eq_of_lt}
 use Rattle.heco_written.specs.World.{World}
 use Rattle.heco_written.specs.ScalarTerm.{ScalarTerm, Number, scalar_value}
@@ -12,7 +11,6 @@ use Rattle.heco_ir.specs.declared.vector.VNode.{VNode}
 use Rattle.heco_ir.specs.Terms.{vector_at, vector_terms}
 use Rattle.heco_batch.specs.declared.home.NodeHome.{NodeHome}
 use Rattle.heco_batch.specs.declared.home.NodeHome.TheVariants.{Number as NumberNode, At as AtNode}
-use Rattle.heco_batch.specs.Places.{place_at}
 use Rattle.heco_batch.specs.declared.written.NodeWritten.{NodeWritten}
 use Rattle.heco_batch.specs.Written.{WrittenIs}
 use Rattle.heco_batch.specs.Homes.{HomeIs, IsNoZero}

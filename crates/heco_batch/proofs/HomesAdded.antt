@@ -1,13 +1,12 @@
-use Rattle.std.proofs.Common.{◌≡◌, ℕ, zero, suc, ◌+◌, ◌%◌, ◌<◌, ◌≤◌, List, [], ◌∷◌, ◌++◌, length, refl, ap, sym, ◌∙◌, arith}
-use Rattle.std.specs.Prelude.{Option, Some, None}
+use Rattle.std.proofs.Common.{◌≡◌, ℕ, zero, suc, ◌+◌, ◌%◌, ◌<◌, List, [], ◌∷◌, ◌++◌, refl, ap, sym, ◌∙◌, arith}
+use Rattle.std.specs.Prelude.{Some}
 use Rattle.std.proofs.Math.Nat.{mod-add-mod}
 use Rattle.heco_written.specs.VectorTerm.{Shifted}
-use Rattle.heco_written.specs.WrittenForm.{Place, Run, Home, Known, At, constant, places, runs, folded, beside, sum_of_runs, with_constant, shifted_by, sum_home, sum_at}
+use Rattle.heco_written.specs.WrittenForm.{Place, Home, Known, At, constant, places, runs, folded, beside, sum_of_runs, with_constant, shifted_by, sum_home}
 use Rattle.heco_written.proofs.RunsPushed.{sum_of_runs-push, sum_at-is}
 use Rattle.heco_ir.specs.declared.dialect.NodeId.{NodeId}
 use Rattle.heco_ir.specs.declared.vector.VNode.{VNode}
 use Rattle.heco_ir.specs.Terms.{vector_at, vector_terms, HasTerm}
-use Rattle.heco_batch.specs.declared.home.NodeHome.{NodeHome}
 use Rattle.heco_batch.specs.declared.home.NodeHome.TheVariants.{Number as NumberNode, At as AtNode}
 use Rattle.heco_batch.specs.declared.home.NodeSum.{NodeSum}
 use Rattle.heco_batch.specs.declared.place.NodeSlot.{NodeSlot}

@@ -6,3 +6,5 @@ pub mod TableRead
 pub mod HomeMeans
 pub mod FewNodes
 pub mod RootsAdded
+pub mod InputsKept
+pub mod PlainPushed

@@ -1,19 +1,19 @@
-use Rattle.std.proofs.Common.{◌≡◌, ℕ, ◌+◌, ◌<◌, ◌≤◌, List, [], ◌∷◌, ◌++◌, length, refl, ap, sym, ◌∙◌, arith, Bool, true, false, ◌&&◌, nat_eq, nat_lt, cond}
+use Rattle.std.proofs.Common.{◌≡◌, ℕ, ◌+◌, ◌<◌, List, [], ◌∷◌, ◌++◌, length, refl, ap, ◌∙◌, arith, true, false, nat_eq, cond}
 use Rattle.std.specs.Prelude.{Option, Some, None, Result, Ok, Err, IfOk}
 use Rattle.std.proofs.lemmas.Bool.{ltb-true}
 use Rattle.heco_written.specs.VectorTerm.{same_vector}
 use Rattle.heco_written.specs.WrittenForm.{Place, Run, run_of, longer, continues, runs, folded, beside, sum_of_runs}
-use Rattle.heco_written.proofs.RunSlots.{both_left, both_right}
-use Rattle.heco_written.proofs.RunsPushed.{runs-push, runs-first, sum_of_runs-push}
+use Rattle.heco_written.proofs.RunSlots.{both_right}
+use Rattle.heco_written.proofs.RunsPushed.{runs-push}
 use Rattle.heco_nums.specs.declared.memory.Memory.{Memory}
 use Rattle.heco_ir.specs.declared.vector.VNode.{VNode}
-use Rattle.heco_ir.specs.Terms.{vector_at, vector_terms, HasTerm, Extends}
+use Rattle.heco_ir.specs.Terms.{Extends}
 use Rattle.heco_ir.proofs.Extended.{term_stands, extends_length}
 use Rattle.heco_batch.specs.declared.place.NodeSlot.{NodeSlot}
 use Rattle.heco_batch.specs.declared.place.NodeRun.{NodeRun}
 use Rattle.heco_batch.specs.declared.sum.NodePlaces.{NodePlaces}
 use Rattle.heco_batch.specs.Places.{place_at, run_at, place_at_option, PlaceIs, OptionWithin}
-use Rattle.heco_batch.specs.Sums.{RunIs, ArePlaces, AreOptionPlaces}
+use Rattle.heco_batch.specs.Sums.{RunIs, ArePlaces}
 use Rattle.heco_batch.proofs.Placed.{option_stands}
 
 pub run_stands : {m : ℕ} {a b : List VNode} (slots : ℕ) (d : NodeRun) (r : Run) → Extends m a b → RunIs a slots d r → RunIs b slots d r

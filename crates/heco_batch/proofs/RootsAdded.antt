@@ -1,10 +1,10 @@
 -- Roots and homes, one after the other.
-use Rattle.std.proofs.Common.{◌≡◌, ℕ, zero, suc, ◌+◌, ◌<◌, ◌≤◌, List, [], ◌∷◌, ◌++◌, length, refl, ap, sym, ◌∙◌, arith, get_or, map, take, length-append, true}
+use Rattle.std.proofs.Common.{◌≡◌, ℕ, suc, ◌+◌, ◌<◌, List, [], ◌∷◌, ◌++◌, length, refl, ap, sym, ◌∙◌, arith, get_or, map, take, length-append, true}
 use Rattle.std.specs.Prelude.{slice_get, Some}
 use Rattle.std.proofs.lemmas.List.{take_more, map-append, length-take-le}
 use Rattle.std.proofs.Math.Seq.{take-length}
 use Rattle.heco_written.specs.ScalarTerm.{ScalarTerm, Number}
-use Rattle.heco_written.specs.VectorTerm.{VectorTerm, Input}
+use Rattle.heco_written.specs.VectorTerm.{Input}
 use Rattle.heco_written.specs.WrittenForm.{Home as WrittenHome, Known, At as AtPlace, Place, places, written}
 use Rattle.heco_ir.specs.declared.dialect.NodeId.{NodeId}
 use Rattle.heco_ir.specs.declared.home.Home.{Home}
@@ -17,7 +17,6 @@ use Rattle.heco_ir.specs.Terms.{scalar_terms, scalar_term_over, vector_terms, te
 use Rattle.heco_ir.proofs.Built.{slice_get_below, length-built}
 use Rattle.heco_ir.proofs.Means.{below_append, earlier_at, numbers-append}
 use Rattle.heco_batch.specs.declared.place.NodeSlot.{NodeSlot}
-use Rattle.heco_batch.specs.declared.home.NodeHome.{NodeHome}
 use Rattle.heco_batch.specs.declared.home.NodeHome.TheVariants.{Number as NumberNode, At as AtNode}
 use Rattle.heco_batch.specs.declared.written.NodeWritten.{NodeWritten}
 use Rattle.heco_batch.specs.Homes.{HomeIs}

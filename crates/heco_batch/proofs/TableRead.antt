@@ -57,7 +57,7 @@ operands_before ns i m n h e f =
     let z : m ≡ 0 + i = omega arith in
     ap (λ k. all_below m (scalar_operands k)) (sym g) ∙ ap (λ k. all_below k (scalar_operands (get_or ns i n))) z ∙ earlier_at scalar_operands 0 i ns n h l
 
-operations-append : (xs : List SNode) (n : SNode) → operations (xs ++ n ∷ []) ≡ operations xs + operation n
+pub operations-append : (xs : List SNode) (n : SNode) → operations (xs ++ n ∷ []) ≡ operations xs + operation n
 operations-append [] n = omega arith
 operations-append (x ∷ xs) n = omega (arith, operations-append xs n)
 
@@ -92,22 +92,26 @@ tabled_all {ns} {i} {c} {slots} {modulus} {table} h e =
 pub contained : (ns : List SNode) (i : ℕ) (n : SNode) → slice_get ns i ≡ Some n → Contains ns n
 contained ns i n e = let (l, g) = slice_get_below ns i n n e in (i, l, g)
 
+-- a node's term is over those before it
+pub term_here : (ns : List SNode) (i : ℕ) (n : SNode) → slice_get ns i ≡ Some n → get_or (scalar_terms ns) i (Number 0) ≡ scalar_term_over (scalar_terms (take i ns)) n
+term_here ns i n e =
+    let (l, g) = slice_get_below ns i n n e in
+    let front : length (take i ns) ≡ i = length-take-le i ns (omega arith) in
+    let more : length (take (i + 1) ns) ≡ i + 1 = length-take-le (i + 1) ns (omega arith) in
+    let split : ns ≡ take (i + 1) ns ++ drop (i + 1) ns = sym (take-append-drop (i + 1) ns) in
+    ap (λ x. get_or (scalar_terms x) i (Number 0)) split
+    ∙ built-stands scalar_term_over (take (i + 1) ns) (drop (i + 1) ns) i (Number 0) (omega arith)
+    ∙ ap (λ x. get_or (scalar_terms x) i (Number 0)) (one_more ns i n e)
+    ∙ ap (λ k. get_or (scalar_terms (take i ns ++ n ∷ [])) k (Number 0)) (sym front)
+    ∙ built-last scalar_term_over (take i ns) n (Number 0)
+
 -- the term of the next node over those before it is proper
 pub next_proper : (ns : List SNode) (i slots modulus : ℕ) (n : SNode) → 0 < modulus → AllMade modulus slots (scalar_terms ns) → slice_get ns i ≡ Some n
     → IsProper modulus slots (scalar_term_over (scalar_terms (take i ns)) n)
 next_proper ns i slots modulus n some made e =
     let (l, g) = slice_get_below ns i n n e in
-    let front : length (take i ns) ≡ i = length-take-le i ns (omega arith) in
-    let more : length (take (i + 1) ns) ≡ i + 1 = length-take-le (i + 1) ns (omega arith) in
-    let split : ns ≡ take (i + 1) ns ++ drop (i + 1) ns = sym (take-append-drop (i + 1) ns) in
-    let here : get_or (scalar_terms ns) i (Number 0) ≡ scalar_term_over (scalar_terms (take i ns)) n =
-    ap (λ x. get_or (scalar_terms x) i (Number 0)) split
-    ∙ built-stands scalar_term_over (take (i + 1) ns) (drop (i + 1) ns) i (Number 0) (omega arith)
-    ∙ ap (λ x. get_or (scalar_terms x) i (Number 0)) (one_more ns i n e)
-    ∙ ap (λ k. get_or (scalar_terms (take i ns ++ n ∷ [])) k (Number 0)) (sym front)
-    ∙ built-last scalar_term_over (take i ns) n (Number 0) in
     let there : slice_get (scalar_terms ns) i ≡ Some (get_or (scalar_terms ns) i (Number 0)) = slice_get-get_or (scalar_terms ns) i (Number 0) (omega (arith, length-built scalar_term_over ns)) in
-    rw here at (proper_made modulus slots some (made i (get_or (scalar_terms ns) i (Number 0)) there))
+    rw (term_here ns i n e) at (proper_made modulus slots some (made i (get_or (scalar_terms ns) i (Number 0)) there))
 
 -- there is room for what one node adds
 pub room : {ns : List SNode} {i : ℕ} {c : List VNode} {slots modulus : ℕ} {table : List NodeWritten} → Tabled ns i c slots modulus table → EachOnce c

@@ -4,3 +4,4 @@ pub mod Homes
 pub mod Written
 pub mod Table
 pub mod Roots
+pub mod Plain

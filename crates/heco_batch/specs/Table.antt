@@ -3,6 +3,7 @@ use Rattle.heco_written.specs.ScalarTerm.{ScalarTerm, IsMade}
 use Rattle.heco_ir.specs.declared.vector.VNode.{VNode}
 use Rattle.heco_ir.specs.declared.scalar.SNode.{SNode}
 use Rattle.heco_ir.specs.declared.scalar.SNode.TheVariants.{Num, Elem}
+use Rattle.heco_ir.specs.declared.vector.VNode.TheVariants.{Input}
 use Rattle.heco_batch.specs.declared.written.NodeWritten.{NodeWritten}
 use Rattle.heco_batch.specs.Written.{WrittenIs}
 
@@ -19,6 +20,10 @@ AllMade modulus slots xs = (k : ℕ) (x : ScalarTerm) → slice_get xs k ≡ Som
 -- the elements are of the first inputs
 abbrev pub AllElementsBelow : ℕ → List SNode → Type 0
 AllElementsBelow inputs ns = (a i : ℕ) → Contains ns (Elem a i) → a < inputs
+
+-- each element's input is among the vector nodes
+abbrev pub HasInputs : List SNode → List VNode → Type 0
+HasInputs ns nodes = (a i : ℕ) → Contains ns (Elem a i) → Contains nodes (Input a)
 
 -- sums, products and negations
 abbrev pub operation : SNode → ℕ

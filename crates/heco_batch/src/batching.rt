@@ -6,7 +6,7 @@ ghost use Rattle.heco_ir.specs.Used.{EachOnce};
 ghost use Rattle.heco_ir.specs.Values.{all_below, numbers};
 ghost use Rattle.heco_ir.specs.Terms.{scalar_terms, terms_at};
 ghost use Rattle.heco_batch.specs.Homes.{HomeIs};
-ghost use Rattle.heco_batch.specs.Table.{TableIs, AllMade, AllElementsBelow, operations};
+ghost use Rattle.heco_batch.specs.Table.{TableIs, AllMade, AllElementsBelow, HasInputs, operations};
 ghost use Rattle.heco_batch.specs.Roots.{RootsAre, root_terms, written_homes, homes_from, vectors_of, AllHomesFit};
 
 use crate::home::NodeHome;
@@ -119,6 +119,7 @@ pub fn batch<'b>(
     ensures once { IfOk result (λ r. EachOnce r.0.0) }
     ensures gates { IfOk result (λ r. gates_of_nodes r.0.0 ≤ 39 * operations ir.now.0) }
     ensures fits { IfOk result (λ r. AllFit p.now.slots p.now.t ir.now.0 r.0.0) }
+    ensures elements { IfOk result (λ r. HasInputs ir.now.0 r.0.0) }
     ensures homes_fit { IfOk result (λ r. AllHomesFit p.now.slots p.now.t r.1) }
 {
     let mut c = Cons::open(alloc);

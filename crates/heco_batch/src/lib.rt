@@ -9,3 +9,6 @@ mod table;
 mod written;
 
 pub use batching::batch;
+
+#[cfg(test)]
+mod tests;

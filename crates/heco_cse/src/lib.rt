@@ -2,8 +2,10 @@
 #![tactic(auto)]
 
 mod cons;
+mod dead;
 
 pub use cons::Cons;
+pub use dead::drop_dead;
 
 #[cfg(test)]
 mod tests;

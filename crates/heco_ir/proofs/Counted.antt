@@ -1,7 +1,9 @@
-use Rattle.std.proofs.Common.{◌≡◌, ℕ, zero, suc, List, [], ◌∷◌, refl, arith, length, true, ap, ◌∙◌, sym, get_or, map, nat_lt, inl, inr}
+use Rattle.std.proofs.Common.{◌≡◌, ℕ, zero, suc, ◌-◌, List, [], ◌∷◌, refl, arith, length, true, ap, ◌∙◌, sym, get_or, map, nat_lt, inl, inr}
 use Rattle.std.specs.Prelude.{Contains}
+use Rattle.std.specs.List.{list_any}
 use Rattle.heco_written.specs.VectorTerm.{VectorTerm, Input}
 use Rattle.heco_written.specs.Cost.{subterms, all_subterms}
+use Rattle.heco_written.specs.Needs.{turns_by, needs_turn}
 use Rattle.heco_written.proofs.Members.{Member, Distinct, place_of_member, distinct_places, member-get_or, member-append}
 use Rattle.heco_written.proofs.Parts.{IsOperand, all_subterms-closed, all_subterms-itself}
 use Rattle.heco_written.proofs.Agreement.{gates-cost, late_gates-late_cost, products-needed, turns-needed}
@@ -13,12 +15,8 @@ use Rattle.heco_ir.specs.Gates.{Agrees}
 use Rattle.heco_ir.specs.Terms.{vector_term_over, vector_terms, terms_at}
 use Rattle.heco_ir.specs.Vectors.{vector_operands}
 use Rattle.heco_ir.proofs.Built.{length-built, right, slice_get_below}
+use Rattle.heco_ir.proofs.Amounts.{contains_member, contains_passing, passing_rising}
 use Rattle.heco_ir.proofs.Unique.{vector_terms-at, one_place, covered, below_one}
-
-pub contains_member : {X : Type 0} (xs : List X) (x : X) → Contains xs x → Member x xs
-contains_member [] x (k, l, e) = elim l [ ]
-contains_member (y ∷ xs) x (zero, l, e) = inl (sym e)
-contains_member (y ∷ xs) x (suc k, l, e) = inr (contains_member xs x (k, omega arith, e))
 
 member-map : {X Y : Type 0} (f : X → Y) (x : X) (xs : List X) → Member x xs → Member (f x) (map f xs)
 member-map f x [] m = m
@@ -84,6 +82,13 @@ module _ (ns : List VNode) (roots : List ℕ) (earlier : all_earlier vector_oper
         late_gates_are = late_gates-late_cost (vector_terms ns) (terms_at ns roots) distinct into from;
         products_are = products-needed (vector_terms ns) (terms_at ns roots) distinct into from;
         turns_are = turns-needed (vector_terms ns) (terms_at ns roots) distinct into from;
+        amounts_rise = λ slots. passing_rising (needs_turn (terms_at ns roots)) 1 (slots - 1);
+        amounts_are = λ slots r.
+            let occurs : list_any (turns_by r) (vector_terms ns) ≡ needs_turn (terms_at ns roots) r = turns-needed (vector_terms ns) (terms_at ns roots) distinct into from r in
+            let passing = contains_passing (needs_turn (terms_at ns roots)) 1 (slots - 1) r in (
+              λ c. let w = passing.0 c in (omega (arith, w.0), omega (arith, w.0, w.1), occurs ∙ w.2),
+              λ w. passing.1 (omega (arith, w.0), omega (arith, w.0, w.1), sym occurs ∙ w.2),
+            );
       }
 
 -- the same for a caller

@@ -24,7 +24,7 @@ length-weight_of : (xs : List VNode) → length xs ≤ weight_of xs
 length-weight_of [] = omega arith
 length-weight_of (x ∷ xs) = omega (arith, length-weight_of xs, weight-some x)
 
-gates_of_nodes-append : (xs ys : List VNode) → gates_of_nodes (xs ++ ys) ≡ gates_of_nodes xs + gates_of_nodes ys
+pub gates_of_nodes-append : (xs ys : List VNode) → gates_of_nodes (xs ++ ys) ≡ gates_of_nodes xs + gates_of_nodes ys
 gates_of_nodes-append [] ys = omega arith
 gates_of_nodes-append (x ∷ xs) ys = omega (arith, gates_of_nodes-append xs ys)
 
@@ -50,7 +50,7 @@ pub gates-input : (a b : List VNode) (x : ℕ) → (b ≡ a) ⊎ (b ≡ a ++ Inp
 gates-input a b x (inl e) = ap gates_of_nodes e
 gates-input a b x (inr e) = omega (arith, ap gates_of_nodes e, gates_of_nodes-append a (InputNode x ∷ []))
 
-all_fit-append : (slots modulus : ℕ) (es : List SNode) (ns : List VNode) (n : VNode) → AllFit slots modulus es ns → Fits slots modulus es n → AllFit slots modulus es (ns ++ n ∷ [])
+pub all_fit-append : (slots modulus : ℕ) (es : List SNode) (ns : List VNode) (n : VNode) → AllFit slots modulus es ns → Fits slots modulus es n → AllFit slots modulus es (ns ++ n ∷ [])
 all_fit-append slots modulus es [] n h f = (f, tt)
 all_fit-append slots modulus es (x ∷ ns) n h f = (h.0, all_fit-append slots modulus es ns n h.1 f)
 

@@ -36,7 +36,7 @@ vector_terms-at ns k e = built-at vector_term_over vector_operands (Input 0) vec
 
 -- the node of a term, from its outermost operation
 module _ (ts : List VectorTerm) where
-  input_node : (a : ℕ) (n : VNode) → vector_term_over ts n ≡ Input a → n ≡ InputNode a
+  pub input_node : (a : ℕ) (n : VNode) → vector_term_over ts n ≡ Input a → n ≡ InputNode a
   input_node a (InputNode b) e = cc
   input_node a n e = cc
 

@@ -1,7 +1,7 @@
-use Rattle.std.proofs.Common.{◌≡◌, ap, ◌∙◌, sym}
+use Rattle.std.proofs.Common.{◌≡◌, ap, ◌∙◌}
 use Rattle.heco_written.specs.WrittenForm.{Place, beside, folded}
 use Rattle.heco_ir.specs.Terms.{vector_at, vector_terms}
-use Rattle.heco_batch.specs.Places.{place_at, run_at, place_at_option}
+use Rattle.heco_batch.specs.Places.{run_at, place_at_option}
 use Rattle.heco_batch.proofs.Placed.{option_stands}
 use Rattle.std.proofs.Common.{arith}
 use Rattle.heco_ir.proofs.Extended.{extends_length, extends_more}

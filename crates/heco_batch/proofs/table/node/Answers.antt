@@ -1,6 +1,5 @@
-use Rattle.std.proofs.Common.{◌≡◌, ◌<◌, length, true, ap, sym}
+use Rattle.std.proofs.Common.{◌≡◌, length, true}
 use Rattle.std.proofs.Common.{[], ◌∷◌}
-use Rattle.heco_ir.specs.Scalars.{scalar_operands}
 use Rattle.heco_ir.specs.Terms.{scalar_term_over}
 use Rattle.heco_ir.specs.Values.{all_below}
 use Rattle.heco_ir.proofs.Unique.{below_one, below_two}
@@ -9,7 +8,6 @@ use Rattle.std.proofs.Common.{arith, refl}
 use Rattle.heco_batch.proofs.HomeMeans.{factor, left_false, right_false}
 use Rattle.heco_written.specs.Proper.{IsProper}
 use Rattle.heco_ir.specs.declared.scalar.SNode.TheVariants.{Prod, Num, Elem}
-use Rattle.heco_ir.specs.Ranges.{gates_of_nodes}
 use Rattle.heco_ir.proofs.Extended.{extends_gates}
 use Rattle.heco_batch.proofs.table.node.Goals as goal
 

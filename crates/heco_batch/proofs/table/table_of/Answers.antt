@@ -1,8 +1,8 @@
-use Rattle.std.proofs.Common.{◌≡◌, ◌<◌, length, arith, ap, ◌∙◌}
+use Rattle.std.proofs.Common.{length, ap, ◌∙◌}
 use Rattle.heco_ir.specs.Terms.{scalar_terms}
 use Rattle.std.proofs.Common.{take}
 use Rattle.heco_batch.specs.Table.{TableIs}
-use Rattle.heco_batch.proofs.TableRead.{tabled_start, operands_before, tabled_next, tabled_all, contained, next_proper, room}
+use Rattle.heco_batch.proofs.TableRead.{operands_before, tabled_next, contained, next_proper, room}
 use Rattle.heco_batch.proofs.table.table_of.Goals as goal
 
 pub node-requires-in-loop-i-clause-operands : goal.node-requires-in-loop-i-clause-operands
