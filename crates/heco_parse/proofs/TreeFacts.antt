@@ -1,13 +1,15 @@
 -- From what reading tells to the words of the contract.
-use Rattle.std.proofs.Common.{◌≡◌, ◌∙◌, sym, ap, subst, refl, ℕ, List, [], ◌∷◌, ◌++◌}
+use Rattle.std.proofs.Common.{◌≡◌, ◌∙◌, sym, ap, subst, ℕ, List, ◌≤◌, ◌^◌, length}
 use Rattle.std.specs.Prelude.{Result, Ok, Err, IfOk}
-use Rattle.heco_lex.specs.Splits.{Splits}
+use Rattle.heco_lex.specs.Splits.{AreSpans, Splits}
 use Rattle.heco_lex.specs.declared.place.Place.{Place}
 use Rattle.heco_lex.specs.declared.token.Token.{Token}
 use Rattle.heco_syntax.specs.Lexemes.{lexemes_of}
 use Rattle.heco_syntax.specs.Sources.{IsSource}
+use Rattle.heco_syntax.specs.Wellformed.{IsWellformed}
 use Rattle.heco_syntax.specs.declared.lexeme.Lexeme.{Lexeme}
 use Rattle.heco_syntax.specs.declared.tree.Source.{Source}
+use Rattle.heco_order.proofs.Ordered.{in_order}
 use Rattle.heco_expressions.specs.Reading.{syntax, nested}
 use Rattle.heco_statements.specs.Reading.{whole}
 use Rattle.heco_statements.proofs.WholeSources.{whole_stops, whole_dives}
@@ -28,3 +30,9 @@ pub only_tree : {E : Type 0} (text : List ℕ) (tokens : List Token) (ls : List 
     → IfOk r (λ x. (n d : ℕ) (y : Source) → IsSource n d ls y → y ≡ x) → IfOk r (λ x. (n d : ℕ) (ts : List Token) (y : Source) → Splits 0 text ts → IsSource n d (lexemes_of text ts) y → y ≡ x)
 only_tree text tokens ls (Ok x) one e h = λ n d ts y s i. h n d y (subst (λ v. IsSource n d v y) (ap (lexemes_of text) (one ts s) ∙ sym e) i)
 only_tree text tokens ls (Err v) one e h = tt
+
+-- the tree of the lexemes of a text is wellformed
+pub wellformed_tree : {E : Type 0} (text : List ℕ) (tokens : List Token) (ls : List Lexeme) (r : Result Source E) → length text ≤ 2 ^ 20 → AreSpans text 0 tokens → ls ≡ lexemes_of text tokens
+    → IfOk r (IsSource 64 8 ls) → IfOk r IsWellformed
+wellformed_tree text tokens ls (Ok x) short spans e i = record { within = record { tokens = ls; is = i }; order = in_order text 0 tokens 64 8 x short spans (subst (λ v. IsSource 64 8 v x) e i) }
+wellformed_tree text tokens ls (Err v) short spans e i = tt

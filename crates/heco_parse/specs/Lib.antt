@@ -1,1 +1,2 @@
+pub mod Regained
 pub mod Trees

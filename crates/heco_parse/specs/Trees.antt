@@ -1,10 +1,9 @@
 -- The tree of a text, and why a text has none.
-use Rattle.std.specs.Prelude.{◌≡◌, ◌≤◌, ◌<◌, ℕ, List, [], ◌∷◌, ◌++◌, length}
+use Rattle.std.specs.Prelude.{◌≡◌, ◌<◌, ℕ, List, [], ◌∷◌, ◌++◌, length}
 use Rattle.heco_lex.specs.Places.{place_in}
 use Rattle.heco_lex.specs.Splits.{Splits}
 use Rattle.heco_lex.specs.Steps.{IsBadPlace}
 use Rattle.heco_lex.specs.declared.place.Place.{Place}
-use Rattle.heco_lex.specs.declared.rule.Rule.{Rule}
 use Rattle.heco_lex.specs.declared.rule.Rule.TheVariants as rule
 use Rattle.heco_lex.specs.declared.token.Token.{Token}
 use Rattle.heco_syntax.specs.Lexemes.{lexemes_of}

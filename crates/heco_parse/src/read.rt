@@ -4,7 +4,10 @@ ghost use Rattle.heco_lex.specs.declared.token.Token.{Token};
 ghost use Rattle.heco_syntax.specs.Lexemes.{lexemes_of};
 ghost use Rattle.heco_syntax.specs.Limits.{levels, depth};
 ghost use Rattle.heco_syntax.specs.Sources.{IsSource};
+ghost use Rattle.heco_syntax.specs.Wellformed.{IsWellformed};
 ghost use Rattle.heco_syntax.specs.declared.tree.Source.{Source};
+ghost use Rattle.heco_print.specs.Lines.{printed};
+ghost use Rattle.heco_parse.specs.Regained.{Regains};
 ghost use Rattle.heco_parse.specs.Trees.{source_limit, place_or_end, HasNoTree, IsTree, IsRefused};
 ghost use Rattle.std.specs.Prelude.{List as Seq};
 
@@ -98,7 +101,9 @@ fn split(alloc: Global, text: &[u8]) -> Result<List<Token>, ParseErr>
 /// The tree of the text, or the first rule of reading that it breaks.
 pub fn parse(alloc: Global, text: &[u8]) -> Result<Source, ParseErr>
     ensures tree { IfOk result (IsTree text.now) }
+    ensures wellformed { IfOk result IsWellformed }
     ensures only { IfOk result (λ x. (n d : ℕ) (ts : Seq Token) (y : Source) → Splits 0 text.now ts → IsSource n d (lexemes_of text.now ts) y → y ≡ x) }
+    ensures printed { (source : Seq ℕ) (x : Source) → IsTree source x → text.now ≡ printed x → length text.now ≤ source_limit → Regains x result }
     ensures long { (result ≡ Err ParseErr.SourceLong) ↔ (source_limit < length text.now) }
     ensures refused { IfErr result (IsRefused text.now) }
 {

@@ -1,6 +1,6 @@
 use super::*;
 use heco_lex::Rule;
-use heco_nums::Memory;
+use heco_nums::{Bytes, Memory};
 use std::alloc::Global;
 use std::test::Fail;
 
@@ -191,5 +191,38 @@ fn sources_and_their_answers(rt: HostRuntime) -> Result<(), Fail> {
     assert_eq!(rt; answer_of(rt.alloc(), &spaces)?, Answer::Long);
     let longest = answer_of(rt.alloc(), &spaces[..65_536])?;
     assert_eq!(rt; longest, Answer::At(Rule::Syntax, 1, 65_537));
+    Ok(())
+}
+
+fn printed_of(alloc: Global, text: &[u8]) -> Result<Bytes, Memory> {
+    match parse(alloc, text) {
+        Ok(source) => print(alloc, &source),
+        Err(_) => Err(Memory),
+    }
+}
+
+#[test]
+fn printed_sources(rt: HostRuntime) -> Result<(), Fail> {
+    let rows = [
+        ("params p8;fn f(){}", "params p8 ; fn f ( ) { }\n"),
+        (
+            "params p8; fn f(in x, out y[3]) {\ny = -x*x + (x - 1) - (x - (1 + 2)) + (x*x) + 007; } // the end",
+            "params p8 ; fn f ( in x , out y [ 3 ] ) { y = - x * x + ( x - 1 ) - ( x - ( 1 + 2 ) ) + x * x + 7 ; }\n",
+        ),
+        (
+            "params p8; fn f(in x, out y) { y[(1)] += (x*2)*-(x)*(x+x)*-(x*x); }",
+            "params p8 ; fn f ( in x , out y ) { y [ 1 ] += ( x * 2 ) * - x * ( x + x ) * - ( x * x ) ; }\n",
+        ),
+        (
+            "params p8; fn f(in x, out y) { for i in 0..3 { int w[2]={1,2}; int k=i; secret s; secret t[3]; secret u=x; y -= w[i]; y *= 2; } }",
+            "params p8 ; fn f ( in x , out y ) { for i in 0 .. 3 { int w [ 2 ] = { 1 , 2 } ; int k = i ; secret s ; secret t [ 3 ] ; secret u = x ; y -= w [ i ] ; y *= 2 ; } }\n",
+        ),
+    ];
+    for (text, want) in rows {
+        let line = printed_of(rt.alloc(), text.as_bytes())?;
+        assert_eq!(rt; line.as_slice(), want.as_bytes(), "{text}");
+        let again = printed_of(rt.alloc(), line.as_slice())?;
+        assert_eq!(rt; again.as_slice(), want.as_bytes(), "{text}");
+    }
     Ok(())
 }

@@ -1,2 +1,2 @@
-mod Loops
-mod Prints
+pub mod Loops
+pub mod Prints

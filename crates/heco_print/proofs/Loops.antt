@@ -11,7 +11,7 @@ use Rattle.heco_syntax.specs.declared.tree.Stmt.{Stmt, fold-roll-Stmt}
 use Rattle.heco_syntax.specs.declared.tree.Stmt.TheVariants as s
 use Rattle.heco_syntax.specs.declared.tree.Stmt.TheOpen.{Stmt-F}
 
-spelled_loop : (at : Place) (name : Ident) (low high : Expr) (body : List Stmt) → spelled_stmt (s.Loop at name low high body) ≡ loop at name low high (flat_map spelled_stmt body)
+pub spelled_loop : (at : Place) (name : Ident) (low high : Expr) (body : List Stmt) → spelled_stmt (s.Loop at name low high body) ≡ loop at name low high (flat_map spelled_stmt body)
 spelled_loop at name low high body =
     ap spelled_stmt (sym (s.rolls-Loop at name low high body)) ∙ fold-roll-Stmt (List Lexeme) stmt_step (Stmt-F.Loop at name low high body)
     ∙ ap (loop at name low high) (flat_of_map spelled_stmt body)

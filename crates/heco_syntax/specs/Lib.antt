@@ -6,3 +6,4 @@ pub mod Limits
 pub mod Parts
 pub mod Productions
 pub mod Sources
+pub mod Wellformed

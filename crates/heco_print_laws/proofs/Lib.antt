@@ -1,0 +1,9 @@
+pub mod Fitting
+pub mod LiftedExpressions
+pub mod LiftedSources
+pub mod Numerals
+pub mod PlainExpressions
+pub mod PrintedExpressions
+pub mod PrintedSources
+pub mod Regain
+pub mod Texts
