@@ -1,0 +1,11 @@
+//! Sources as reading gives them, and what typing answers.
+#![tactic(auto)]
+
+#[cfg(test)]
+mod answer;
+#[cfg(test)]
+mod parameters;
+#[cfg(test)]
+mod rows;
+#[cfg(test)]
+mod shapes;

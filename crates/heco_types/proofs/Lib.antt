@@ -1,0 +1,7 @@
+pub mod Scopes
+pub mod Walks
+pub mod TableFacts
+pub mod FirstFacts
+pub mod PresetWords
+pub mod TypedFacts
+pub mod TriedFacts

@@ -1,0 +1,11 @@
+pub mod Presets
+pub mod Names
+pub mod Table
+pub mod Sites
+pub mod Expressions
+pub mod Statements
+pub mod Parameters
+pub mod FirstBroken
+pub mod Shapes
+pub mod Typing
+pub mod Tried
