@@ -1,0 +1,9 @@
+pub mod Evaluations
+pub mod ExpressionLemmas
+pub mod Following
+pub mod NameLemmas
+pub mod OutcomeLemmas
+pub mod Runs
+pub mod TermLaws
+pub mod TurnLemmas
+pub mod Wholes

@@ -1,0 +1,58 @@
+-- What the executions on numbers and on terms have in common.
+use Rattle.std.specs.Prelude.{◌≡◌, ℕ, zero, suc, ◌<◌, List, [], ◌∷◌, map, cond, Ok, Err}
+use Rattle.heco_syntax.specs.declared.tree.Param.{Param}
+use Rattle.heco_syntax.specs.declared.tree.Source.{Source}
+use Rattle.heco_written.specs.World.{World}
+use Rattle.heco_written.specs.ScalarTerm.{ScalarTerm, Element, scalar_value}
+use Rattle.heco_execution.specs.Outcomes.{Outcome}
+use Rattle.heco_execution.specs.Whole.{length_of}
+use Rattle.heco_execution.specs.Plain.{plain_outputs, term_outputs}
+
+-- the lengths of the inputs, in order
+abbrev pub input_lengths : List Param → List ℕ
+input_lengths [] = []
+input_lengths (p ∷ ports) = cond p.output (input_lengths ports) (length_of p.len ∷ input_lengths ports)
+
+-- so many elements of an input, from one on
+abbrev pub elements_from : ℕ → ℕ → ℕ → List ScalarTerm
+elements_from a i zero = []
+elements_from a i (suc n) = Element a i ∷ elements_from a (suc i) n
+
+-- the elements of inputs of these lengths, from the input a on
+abbrev pub elements : ℕ → List ℕ → List (List ScalarTerm)
+elements a [] = []
+elements a (n ∷ ns) = elements_from a 0 n ∷ elements (suc a) ns
+
+-- so many numbers, all below t
+abbrev pub IsRow : ℕ → ℕ → List ℕ → Type 0
+IsRow t zero [] = Unit {0}
+IsRow t (suc n) (x ∷ xs) = (x < t) × IsRow t n xs
+IsRow t zero (x ∷ xs) = ⊥
+IsRow t (suc n) [] = ⊥
+
+-- rows of these lengths, of numbers below t
+abbrev pub AreRows : ℕ → List ℕ → List (List ℕ) → Type 0
+AreRows t [] [] = Unit {0}
+AreRows t (n ∷ ns) (x ∷ xs) = IsRow t n x × AreRows t ns xs
+AreRows t [] (x ∷ xs) = ⊥
+AreRows t (n ∷ ns) [] = ⊥
+
+-- the terms of a source's output elements: they and the refusals depend on the source and the modulus alone
+abbrev pub source_terms : ℕ → Source → Outcome (List (List ScalarTerm))
+source_terms t source = term_outputs t source (elements 0 (input_lengths source.ports))
+
+-- the result of a function, where no rule is broken
+abbrev pub mapped : {A B : Type 0} → (A → B) → Outcome A → Outcome B
+mapped f (Ok x) = Ok (f x)
+mapped f (Err e) = Err e
+
+-- the values of terms, list by list
+abbrev pub values_of : World → List (List ScalarTerm) → List (List ℕ)
+values_of w rows = map (λ row. map (λ x. scalar_value w x) row) rows
+
+-- the numbers that come out of inputs of a source's shapes are the values of the source's terms, and the same rule is
+-- broken at the same place
+abbrev pub NumbersAreTheTermsValues : Type 0
+NumbersAreTheTermsValues =
+    (w : World) (source : Source) → AreRows w.modulus (input_lengths source.ports) w.inputs
+    → plain_outputs w.modulus source w.inputs ≡ mapped (values_of w) (source_terms w.modulus source)

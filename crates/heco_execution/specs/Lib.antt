@@ -1,0 +1,9 @@
+pub mod Evaluation
+pub mod Execution
+pub mod Laws
+pub mod Outcomes
+pub mod Plain
+pub mod Secrets
+pub mod States
+pub mod Steps
+pub mod Whole
