@@ -12,7 +12,7 @@ use Rattle.heco_top.specs.declared.outcome.InputRule.TheVariants.{InputText}
 use Rattle.heco_top.specs.declared.outcome.Outcome.{Outcome}
 use Rattle.heco_top.specs.declared.outcome.Outcome.TheVariants.{Ok as Fine, Refused, ReadFault, WriteFault, Memory}
 use Rattle.heco_top.specs.declared.outcome.Refusal.{Refusal}
-use Rattle.heco_top.specs.declared.outcome.Refusal.TheVariants.{Usage, At, InputAt}
+use Rattle.heco_top.specs.declared.outcome.Refusal.TheVariants.{Usage, At, InputAt, Length, Bounds, Malformed, Noisy}
 use Rattle.heco_top.specs.Commands.{IsInputText}
 use Rattle.heco_top.specs.Reads.{Judges}
 use Rattle.heco_top.specs.Texts.{line_text, text_of, IsInput, longest_of}
@@ -40,10 +40,10 @@ input_short : (shapes : List Shape) (text : List ℕ) (v : Values) → IsInput s
 input_short shapes text v h = subst (λ t. length t ≤ longest_of shapes) (sym h.spelled) (text_short shapes v.rows h.values)
 
 -- the first bytes, one more than the longest text has, are the text itself where either is a text of the inputs
-cut_first : (text bytes : List ℕ) (limit : ℕ) → take limit text ≡ bytes → length bytes < limit → bytes ≡ text
+pub cut_first : (text bytes : List ℕ) (limit : ℕ) → take limit text ≡ bytes → length bytes < limit → bytes ≡ text
 cut_first text bytes limit cut short = sym cut ∙ take_all limit text (omega (arith, length-take limit text, ap length cut))
 
-cut_whole : (text bytes : List ℕ) (limit : ℕ) → take limit text ≡ bytes → length text < limit → bytes ≡ text
+pub cut_whole : (text bytes : List ℕ) (limit : ℕ) → take limit text ≡ bytes → length text < limit → bytes ≡ text
 cut_whole text bytes limit cut short = sym cut ∙ take_all limit text (omega arith)
 
 pub judged_input : (shapes : List Shape) (limit : ℕ) (text bytes : List ℕ) (result : Result Values Outcome) → longest_of shapes < limit → take limit text ≡ bytes
@@ -57,6 +57,10 @@ judged_input shapes limit text bytes (Err (Refused r)) longer cut j =
     no_text (InputAt InputText line) h = tt
     no_text (At rule at) h = absurd h
     no_text Usage h = absurd h
+    no_text (Length which at) h = absurd h
+    no_text (Bounds which at) h = absurd h
+    no_text (Malformed which at) h = absurd h
+    no_text (Noisy which gate bound) h = absurd h
 judged_input shapes limit text bytes (Err Memory) longer cut j = tt
 judged_input shapes limit text bytes (Err Fine) longer cut j = absurd j
 judged_input shapes limit text bytes (Err (ReadFault k)) longer cut j = absurd j

@@ -3,9 +3,13 @@ pub mod StageLaws
 pub mod SourceLaws
 pub mod RowLaws
 pub mod InputLaws
+pub mod CircuitLaws
+pub mod MaterialLaws
+pub mod SeedLaws
 pub mod FinishLaws
 pub mod SteadyLaws
 pub mod PlanLaws
 pub mod EndLaws
 pub mod TopLaws
 pub mod PlainLaws
+pub mod DoneLaws

@@ -7,7 +7,7 @@ use Rattle.heco_source.specs.Execution.{outputs_of}
 use Rattle.heco_source.specs.Simples.{simple_of}
 use Rattle.heco_source.specs.Sources.{Simple}
 use Rattle.heco_top.specs.declared.command.Command.{Command}
-use Rattle.heco_top.specs.declared.command.Command.TheVariants.{Plain}
+use Rattle.heco_top.specs.declared.command.Command.TheVariants.{Plain, Circuit as OnCircuit}
 use Rattle.heco_top.specs.declared.outcome.Outcome.{Outcome}
 use Rattle.heco_top.specs.declared.outcome.Outcome.TheVariants.{Ok as Fine, Refused, ReadFault, WriteFault, Memory}
 use Rattle.heco_top.specs.declared.product.Product.{Product}
@@ -72,4 +72,5 @@ ends_printed words file file' calls calls' out out' short short' (Some Plain) (R
 ends_printed words file file' calls calls' out out' short short' (Some Plain) (ReadFault k) e = tt
 ends_printed words file file' calls calls' out out' short short' (Some Plain) (WriteFault k) e = tt
 ends_printed words file file' calls calls' out out' short short' (Some Plain) Memory e = tt
+ends_printed words file file' calls calls' out out' short short' (Some (OnCircuit task)) outcome e = tt
 ends_printed words file file' calls calls' out out' short short' None outcome e = tt

@@ -1,15 +1,17 @@
 -- The calls of a command are the first of its planned calls.
-use Rattle.std.proofs.Common.{◌≡◌, ◌⊎◌, ◌<◌, ◌∙◌, ℕ, List, [], ◌∷◌, ◌++◌, map, Option, Some, None, Result, Ok, Err, refl, sym, ap, subst, inl, inr, append_assoc, append-nil}
+use Rattle.std.proofs.Common.{◌≡◌, ◌⊎◌, ◌<◌, ◌∙◌, arith, ℕ, List, [], ◌∷◌, ◌++◌, map, Option, Some, None, Result, Ok, Err, refl, sym, ap, subst, inl, inr, append_assoc, append-nil}
 use Rattle.std.specs.Prelude.{is_some}
 use Rattle.heco_outside.specs.declared.store.Call.{Call}
 use Rattle.heco_top.specs.declared.command.Command.{Command}
-use Rattle.heco_top.specs.declared.command.Command.TheVariants.{Plain}
+use Rattle.heco_top.specs.declared.command.Command.TheVariants.{Plain, Circuit as OnCircuit}
+use Rattle.heco_top.specs.declared.command.Task.{Task}
+use Rattle.heco_top.specs.declared.command.Task.TheVariants.{Show, Draw, Keys}
 use Rattle.heco_top.specs.declared.outcome.Outcome.{Outcome}
 use Rattle.heco_top.specs.declared.outcome.Outcome.TheVariants.{Ok as Fine, Refused, ReadFault, WriteFault, Memory}
 use Rattle.heco_top.specs.declared.product.Planned.{Planned}
 use Rattle.heco_top.specs.declared.product.Product.{Product}
 use Rattle.heco_top.specs.Calls.{Step, reading, writing, done, failed}
-use Rattle.heco_top.specs.Commands.{Plan, plan_of, job_of, plain_job, values_job, Prints}
+use Rattle.heco_top.specs.Commands.{Plan, plan_of, task_plan, job_of, plain_job, values_job, circuit_job, task_job, material_job, Prints, Stores, two_files}
 use Rattle.heco_top.specs.Endings.{Files, Gathers, Writes, EndsAfter, JobEnds, Printed}
 use Rattle.heco_top.specs.Jobs.{Job, Read, Give}
 use Rattle.heco_top.specs.Plans.{FitsPlan, Begun, StoppedAt, FollowsSteps, steps_of}
@@ -24,9 +26,25 @@ Plans (Give Allowed) (r ∷ reads) plan = ⊥
 fits_plain : (text : List ℕ) (p : Product) → Prints text p → FitsPlan (plan_of Plain) p
 fits_plain text p h = record { writes = ap (map (λ w. w.which)) h.writes; text = ap is_some h.text }
 
+fits_show : (text : List ℕ) (p : Product) → Prints text p → FitsPlan (task_plan Show) p
+fits_show text p h = record { writes = ap (map (λ w. w.which)) h.writes; text = ap is_some h.text }
+
+fits_draw : (seed : ℕ) (first second : List ℕ) (p : Product) → Stores (two_files first second) p → FitsPlan (task_plan (Draw seed)) p
+fits_draw seed first second p h = record { writes = ap (map (λ w. w.which)) h.writes; text = ap is_some h.text }
+
+fits_keys : (first second : List ℕ) (p : Product) → Stores (two_files first second) p → FitsPlan (task_plan Keys) p
+fits_keys first second p h = record { writes = ap (map (λ w. w.which)) h.writes; text = ap is_some h.text }
+
+plans_task : (task : Task) → Plans (circuit_job task) (task_plan task).reads (task_plan task)
+unfolding Plans circuit_job task_job material_job
+plans_task Show = (refl, (λ c p h. fits_show _ p h))
+plans_task (Draw seed) = (refl, (λ c p h. fits_draw seed _ _ p h))
+plans_task Keys = (refl, (λ c. (refl, (λ k p h. fits_keys _ _ p h))))
+
 pub plans : (c : Command) → Plans (job_of c) (plan_of c).reads (plan_of c)
 unfolding Plans plain_job values_job
 plans Plain = (refl, (λ s. (refl, (λ v p h. fits_plain _ p h))))
+plans (OnCircuit task) = plans_task task
 
 -- no written word has the number of standard output
 abbrev pub ArePositive : List ℕ → Type 0
@@ -35,6 +53,9 @@ ArePositive (n ∷ ns) = (0 < n) × ArePositive ns
 
 pub positive : (c : Command) → ArePositive (plan_of c).writes
 positive Plain = tt
+positive (OnCircuit Show) = tt
+positive (OnCircuit (Draw seed)) = (omega arith, (omega arith, tt))
+positive (OnCircuit Keys) = (omega arith, (omega arith, tt))
 
 module _ (words : List (List ℕ)) where
   abbrev pub GatherFollows : List ℕ → Plan → List Call → List Call → Result Product Outcome → Type 0

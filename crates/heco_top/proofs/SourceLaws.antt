@@ -7,7 +7,7 @@ use Rattle.heco_source.specs.Sources.{Simple}
 use Rattle.heco_top.specs.declared.outcome.Outcome.{Outcome}
 use Rattle.heco_top.specs.declared.outcome.Outcome.TheVariants.{Ok as Fine, Refused, ReadFault, WriteFault, Memory}
 use Rattle.heco_top.specs.declared.outcome.Refusal.{Refusal}
-use Rattle.heco_top.specs.declared.outcome.Refusal.TheVariants.{Usage, At, InputAt}
+use Rattle.heco_top.specs.declared.outcome.Refusal.TheVariants.{Usage, At, InputAt, Length, Bounds, Malformed, Noisy}
 use Rattle.heco_source.specs.declared.place.Rule.TheVariants.{NotBuilt}
 use Rattle.heco_top.specs.Commands.{IsSource, IsNotBuilt}
 use Rattle.heco_top.specs.Reads.{Judges}
@@ -29,6 +29,10 @@ judged_whole text bytes (Err (Refused r)) cut j = ((λ s is. j.0 s (sym (ap simp
     not_built (At NotBuilt at) h = tt
     not_built Usage h = absurd h
     not_built (InputAt rule line) h = absurd h
+    not_built (Length which at) h = absurd h
+    not_built (Bounds which at) h = absurd h
+    not_built (Malformed which at) h = absurd h
+    not_built (Noisy which gate bound) h = absurd h
 judged_whole text bytes (Err Memory) cut j = tt
 judged_whole text bytes (Err Fine) cut j = absurd j
 judged_whole text bytes (Err (ReadFault k)) cut j = absurd j

@@ -9,7 +9,7 @@ use Rattle.heco_top.specs.declared.outcome.Refusal.{Refusal}
 use Rattle.heco_top.specs.declared.product.Product.{Product}
 use Rattle.heco_top.specs.Endings.{Files, Gathers}
 use Rattle.heco_top.specs.Jobs.{Job, Read, Give}
-use Rattle.heco_top.specs.Reads.{ReadsBytes, ReadsThing, Judges}
+use Rattle.heco_top.specs.Reads.{ReadsBytes, ReadsThing, Judges, Gives}
 use Rattle.heco_top.specs.Words.{name_of}
 
 -- the file whose first bytes were read
@@ -62,6 +62,14 @@ gives words Allowed file calls p allowed = (inl (p, (allowed, refl)), refl)
 pub gives_none : (words : List (List ℕ)) (Allowed : Product → Type 0) (file : Files) (calls : List Call) → Gathers words (Give Allowed) file calls calls (Err Memory)
 unfolding Gathers
 gives_none words Allowed file calls = (inr refl, refl)
+
+pub gives_any : (words : List (List ℕ)) (Allowed : Product → Type 0) (file : Files) (calls : List Call) (result : Result Product Outcome) → Gives Allowed result → Gathers words (Give Allowed) file calls calls result
+gives_any words Allowed file calls (Ok p) h = gives words Allowed file calls p h
+gives_any words Allowed file calls (Err Memory) h = gives_none words Allowed file calls
+gives_any words Allowed file calls (Err Fine) h = absurd h
+gives_any words Allowed file calls (Err (Refused r)) h = absurd h
+gives_any words Allowed file calls (Err (ReadFault k)) h = absurd h
+gives_any words Allowed file calls (Err (WriteFault k)) h = absurd h
 
 -- files that are the same at each name
 pub same_files : (f g : Files) → ((name : List ℕ) → f name ≡ g name) → f ≡ g

@@ -1,10 +1,13 @@
 pub mod Words
 pub mod Texts
+pub mod Seeds
+pub mod CircuitFiles
 pub mod Jobs
 pub mod Commands
 pub mod Calls
 pub mod Endings
 pub mod Reads
 pub mod Plans
+pub mod Done
 pub mod Lines
 pub mod Statuses

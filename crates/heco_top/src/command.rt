@@ -1,24 +1,125 @@
 ghost use Rattle.std.specs.Prelude.{◌≡◌};
-ghost use Rattle.heco_top.specs.Words.{texts, name_of};
-ghost use Rattle.heco_top.specs.Commands.{command_of};
+ghost use Rattle.std.specs.List.{list_any};
+ghost use Rattle.std.specs.Str.{bytes_eq};
+ghost use Rattle.heco_top.specs.Words.{texts, name_of, are_distinct};
+ghost use Rattle.heco_top.specs.Commands.{command_of, plain_of, show_of, draw_of, keys_of};
+
+use crate::seed::seed_of;
+
+/// What is done with a circuit that the first file word holds.
+#[derive(Clone, Copy, Debug, PartialEq, Eq)]
+pub enum Task {
+    Show,
+    Draw { seed: u64 },
+    Keys,
+}
 
 /// What the words ask for.
 #[derive(Clone, Copy, Debug, PartialEq, Eq)]
 pub enum Command {
     Plain,
+    Circuit(Task),
+}
+
+fn is_among(name: &str, words: &[String]) -> bool
+    ensures { result ≡ list_any (bytes_eq name.now) (texts words.now) }
+{
+    let mut rest = words;
+    while let [word, after @ ..] = rest {
+        if name == word.as_str() {
+            return true;
+        }
+        rest = after;
+    }
+    false
+}
+
+fn are_distinct(words: &[String]) -> bool
+    ensures { result ≡ are_distinct (texts words.now) }
+{
+    let mut rest = words;
+    while let [word, after @ ..] = rest {
+        if is_among(word.as_str(), after) {
+            return false;
+        }
+        rest = after;
+    }
+    true
+}
+
+// plain SRC IN
+fn plain_of(words: &[String]) -> Option<Command>
+    ensures { result ≡ plain_of (texts words.now) }
+{
+    let [_, _] = words else {
+        return None;
+    };
+    if are_distinct(words) {
+        Some(Command::Plain)
+    } else {
+        None
+    }
+}
+
+// show CIR
+fn show_of(words: &[String]) -> Option<Command>
+    ensures { result ≡ show_of (texts words.now) }
+{
+    let [_] = words else {
+        return None;
+    };
+    Some(Command::Circuit(Task::Show))
+}
+
+// draw CIR SEED KMAT EMAT
+fn draw_of(words: &[String]) -> Option<Command>
+    ensures { result ≡ draw_of (texts words.now) }
+{
+    let [circuit, seed, files @ ..] = words else {
+        return None;
+    };
+    if files.len() != 2 || is_among(circuit.as_str(), files) || !are_distinct(files) {
+        return None;
+    }
+    let seed = seed_of(seed.as_str())?;
+    Some(Command::Circuit(Task::Draw { seed }))
+}
+
+// keys CIR KMAT SEC EVA
+fn keys_of(words: &[String]) -> Option<Command>
+    ensures { result ≡ keys_of (texts words.now) }
+{
+    let [_, _, _, _] = words else {
+        return None;
+    };
+    if are_distinct(words) {
+        Some(Command::Circuit(Task::Keys))
+    } else {
+        None
+    }
 }
 
 /// The command of the words. The file words of a command differ.
 pub fn command_of(words: &[String]) -> Option<Command>
     ensures { result ≡ command_of (texts words.now) }
 {
-    let [command, source, inputs] = words else {
+    let [command, rest @ ..] = words else {
         return None;
     };
-    if command.as_str() != "plain" || source.as_str() == inputs.as_str() {
-        return None;
+    let command = command.as_str();
+    if command == "plain" {
+        return plain_of(rest);
     }
-    Some(Command::Plain)
+    if command == "show" {
+        return show_of(rest);
+    }
+    if command == "draw" {
+        return draw_of(rest);
+    }
+    if command == "keys" {
+        return keys_of(rest);
+    }
+    None
 }
 
 /// The word of this number, or nothing.

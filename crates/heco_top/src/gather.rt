@@ -6,6 +6,7 @@ ghost use Rattle.heco_top.specs.Words.{texts};
 ghost use Rattle.heco_top.specs.declared.command.Command.TheVariants.{Plain};
 
 use crate::Outcome;
+use crate::circuit_tasks::gather_circuit;
 use crate::command::Command;
 use crate::inputs::read_inputs;
 use crate::plain::plain_product;
@@ -72,5 +73,6 @@ pub fn gather<S: Store>(
 {
     match command {
         Command::Plain => gather_plain(alloc, words, store),
+        Command::Circuit(task) => gather_circuit(alloc, task, words, store),
     }
 }

@@ -16,6 +16,14 @@ pub enum Refusal {
     Usage,
     At { rule: Rule, at: Place },
     InputAt { rule: InputRule, line: u32 },
+    /// The material's length is not the stated one; the smaller of the two.
+    Length { which: u8, at: u64 },
+    /// The material's first word out of bounds begins there.
+    Bounds { which: u8, at: u64 },
+    /// The first broken field, or the first byte behind the last field, stands there.
+    Malformed { which: u8, at: u64 },
+    /// The bound of this gate is the first that passes.
+    Noisy { which: u8, gate: u32, bound: u128 },
 }
 
 /// How a command ended. `which` is the number of the word after the command word; 0 is standard output.
@@ -38,6 +46,10 @@ impl Outcome {
             Outcome::Refused(Refusal::At { .. }) => 1,
             Outcome::Refused(Refusal::Usage) => 2,
             Outcome::Refused(Refusal::InputAt { .. }) => 3,
+            Outcome::Refused(Refusal::Length { .. }) => 3,
+            Outcome::Refused(Refusal::Bounds { .. }) => 3,
+            Outcome::Refused(Refusal::Malformed { .. }) => 3,
+            Outcome::Refused(Refusal::Noisy { .. }) => 3,
             Outcome::ReadFault { .. } | Outcome::WriteFault { .. } => 4,
             Outcome::Memory => 5,
         }

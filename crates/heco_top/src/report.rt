@@ -1,7 +1,7 @@
-ghost use Rattle.std.specs.Prelude.{IsTrue};
+ghost use Rattle.std.specs.Prelude.{IsTrue, codes};
 ghost use Rattle.heco_outside.specs.Calls.{Wrote};
 ghost use Rattle.heco_outside.specs.Causes.{SinkCause};
-ghost use Rattle.heco_top.specs.Lines.{line_of, Reports, place_line, input_line, read_line, write_line};
+ghost use Rattle.heco_top.specs.Lines.{line_of, Reports, place_line, input_line, offset_line, noisy_line, read_line, write_line};
 ghost use Rattle.heco_top.specs.Words.{texts};
 
 use crate::command::name_of;
@@ -47,6 +47,52 @@ fn write_input<E: Sink>(name: &str, line: u32, err: &mut E) -> Result<(), SinkEr
     )
 }
 
+// `FILE: RULE at AT`
+fn write_offset<E: Sink>(name: &str, what: &[u8], at: u64, err: &mut E) -> Result<(), SinkErr>
+    ensures cause { SinkCause (E.faults err.old) (E.faults err.new) (E.shortages err.old) (E.shortages err.new) result }
+    ensures wrote { IsTrue E.tells → Wrote (E.taken err.old) (E.taken err.new) (offset_line name.now what.now at) result }
+{
+    let mut number = Buffer::new();
+    write_pieces(
+        err,
+        &[
+            name.as_bytes(),
+            b": ".as_slice(),
+            what,
+            b" at ".as_slice(),
+            number.format(at).as_bytes(),
+            b"\n".as_slice(),
+        ],
+    )
+}
+
+fn write_malformed<E: Sink>(name: &str, at: u64, err: &mut E) -> Result<(), SinkErr>
+    ensures cause { SinkCause (E.faults err.old) (E.faults err.new) (E.shortages err.old) (E.shortages err.new) result }
+    ensures wrote { IsTrue E.tells → Wrote (E.taken err.old) (E.taken err.new) (offset_line name.now (codes "Malformed") at) result }
+{
+    write_offset(name, b"Malformed".as_slice(), at, err)
+}
+
+// `FILE: Noisy gate GATE bound BOUND`
+fn write_noisy<E: Sink>(name: &str, gate: u32, bound: u128, err: &mut E) -> Result<(), SinkErr>
+    ensures cause { SinkCause (E.faults err.old) (E.faults err.new) (E.shortages err.old) (E.shortages err.new) result }
+    ensures wrote { IsTrue E.tells → Wrote (E.taken err.old) (E.taken err.new) (noisy_line name.now gate bound) result }
+{
+    let mut number = Buffer::new();
+    let mut passing = Buffer::new();
+    write_pieces(
+        err,
+        &[
+            name.as_bytes(),
+            b": Noisy gate ".as_slice(),
+            number.format(gate).as_bytes(),
+            b" bound ".as_slice(),
+            passing.format(bound).as_bytes(),
+            b"\n".as_slice(),
+        ],
+    )
+}
+
 fn write_read_fault<E: Sink>(name: &str, err: &mut E) -> Result<(), SinkErr>
     ensures cause { SinkCause (E.faults err.old) (E.faults err.new) (E.shortages err.old) (E.shortages err.new) result }
     ensures wrote { IsTrue E.tells → Wrote (E.taken err.old) (E.taken err.new) (read_line name.now) result }
@@ -86,6 +132,18 @@ fn write_outcome<E: Sink>(words: &[String], outcome: &Outcome, err: &mut E) -> R
                 line,
             },
         ) => write_input(name_of(words, 2), line, err),
+        Outcome::Refused(Refusal::Length { which, at }) => {
+            write_offset(name_of(words, which), b"Length".as_slice(), at, err)
+        }
+        Outcome::Refused(Refusal::Bounds { which, at }) => {
+            write_offset(name_of(words, which), b"Bounds".as_slice(), at, err)
+        }
+        Outcome::Refused(Refusal::Malformed { which, at }) => {
+            write_malformed(name_of(words, which), at, err)
+        }
+        Outcome::Refused(Refusal::Noisy { which, gate, bound }) => {
+            write_noisy(name_of(words, which), gate, bound, err)
+        }
         Outcome::ReadFault { which } => write_read_fault(name_of(words, which), err),
         Outcome::WriteFault { which } => write_write_fault(words, which, err),
         Outcome::Memory => err.write_all(b"out of memory\n".as_slice()),

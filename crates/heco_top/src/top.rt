@@ -1,6 +1,7 @@
 ghost use Rattle.std.specs.Prelude.{◌≡◌, ◌≢◌, [], IsTrue, MatchOption};
 ghost use Rattle.heco_outside.specs.Causes.{Rose};
 ghost use Rattle.heco_top.specs.Commands.{command_of, plan_of, job_of};
+ghost use Rattle.heco_top.specs.Done.{DoneIfOk};
 ghost use Rattle.heco_top.specs.Endings.{Ends, JobEnds};
 ghost use Rattle.heco_top.specs.Lines.{line_of, Reports};
 ghost use Rattle.heco_top.specs.Plans.{IsCause, HasCause, FollowsPlan, PrintsPlain, Stands, HasFiles, ClearFor, ReadyFor, IsOkOrMemory, IsNoFault};
@@ -76,6 +77,9 @@ pub fn heco<S: Store, O: Sink, E: Sink>(
 
     // where `plain` is done, exactly the text of the source's outputs was printed
     ensures plain { IsTrue S.tells → IsTrue O.tells → PrintsPlain (texts words.now) (command_of (texts words.now)) (S.file store.old) (O.taken out.old) (O.taken out.new) result }
+
+    // where a command is done, exactly the files that it owes were written, all others stand, and exactly the text that it owes was printed
+    ensures done { IsTrue S.tells → IsTrue O.tells → DoneIfOk (texts words.now) (command_of (texts words.now)) (S.file store.old) (S.file store.new) (O.taken out.old) (O.taken out.new) result }
 
     // the store's calls grew by the first of the planned calls, of which only the last may have failed
     ensures planned { IsTrue S.tells → IsTrue O.tells → FollowsPlan (texts words.now) (command_of (texts words.now)) (S.calls store.old) (S.calls store.new) result }

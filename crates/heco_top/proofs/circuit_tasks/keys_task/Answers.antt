@@ -1,0 +1,5 @@
+use Rattle.heco_top.proofs.MaterialLaws.{stored_for}
+use Rattle.heco_top.proofs.circuit_tasks.keys_task.Goals as goal
+
+pub returns-in-Ok : goal.returns-in-Ok
+returns-in-Ok c = stored_for c.args.circuit.now c.args.material.now c.in-Ok.product c.requires.preset c.requires.relin c.requires.turns c.in-Ok.ensures
