@@ -1,0 +1,7 @@
+pub mod AnswerLaws
+pub mod FitLaws
+pub mod FormLaws
+pub mod LineLaws
+pub mod NumberLaws
+pub mod OutputLaws
+pub mod RuleLaws
