@@ -1,0 +1,13 @@
+//! Worked encryptions and gates, by material made by hand.
+#![tactic(auto)]
+
+#[cfg(test)]
+mod decrypted;
+#[cfg(test)]
+mod gates;
+#[cfg(test)]
+mod material;
+#[cfg(test)]
+mod owner;
+#[cfg(test)]
+mod rows;
