@@ -1,0 +1,9 @@
+//! Commands over files in memory, and what comes of them.
+#![tactic(auto)]
+
+#[cfg(test)]
+mod digests;
+#[cfg(test)]
+mod files;
+#[cfg(test)]
+mod rows;
