@@ -16,10 +16,10 @@ use Rattle.heco_ir.proofs.Built.{slice_get_below}
 use Rattle.heco_ir.specs.Ranges.{AllFit, gates_of_nodes}
 use Rattle.heco_ir.proofs.Extended.{gates_of_nodes-append, all_fit-append}
 use Rattle.heco_ir.proofs.Earlier.{earlier_append}
-use Rattle.heco_ir.proofs.Means.{earlier_at, numbers-append}
+use Rattle.heco_ir.proofs.Means.{earlier_at, length-numbers, numbers-append}
 use Rattle.heco_cse.specs.Dead.{at_id, over_ids, nodes_at, Marks, Copies, KeepsUsed}
 use Rattle.heco_cse.proofs.Rising.{rising_push}
-use Rattle.heco_cse.proofs.OverIds.{length-numbers, one_id, at_id-number, operands_over, over_back, all_over_more, below_each, contains_map, contains_below, map_back, node_gates-over, fits-over, fit-parts}
+use Rattle.heco_cse.proofs.OverIds.{one_id, at_id-number, operands_over, over_back, all_over_more, below_each, contains_map, contains_below, map_back, node_gates-over, fits-over, fit-parts}
 use Rattle.heco_cse.proofs.UsedMarks.{marked_used}
 
 pub copies_start : (old : List VNode) (marks : List Bool) → Copies old marks 0 [] []

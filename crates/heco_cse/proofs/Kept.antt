@@ -13,12 +13,12 @@ use Rattle.heco_ir.specs.Vectors.{vector_operands}
 use Rattle.heco_ir.specs.Terms.{vector_at, vector_term_over, vector_terms, terms_at}
 use Rattle.heco_ir.specs.Used.{IsUsed, root, operand, EachOnce, AllUsed}
 use Rattle.heco_ir.proofs.Built.{slice_get_below, right}
-use Rattle.heco_ir.proofs.Means.{below_more_ids}
+use Rattle.heco_ir.proofs.Means.{below_more_ids, length-numbers}
 use Rattle.heco_ir.proofs.Renaming.{get_or-map-lt}
 use Rattle.heco_ir.proofs.Unique.{below_one, below_two, vector_terms-at}
 use Rattle.heco_cse.specs.Dead.{at_id, over_ids, nodes_at, KeepsUsed}
 use Rattle.heco_cse.proofs.Rising.{rising_once}
-use Rattle.heco_cse.proofs.OverIds.{length-numbers, at_id-number, operands_over, contains_map, contains_below}
+use Rattle.heco_cse.proofs.OverIds.{at_id-number, operands_over, contains_map, contains_below}
 use Rattle.heco_cse.proofs.Marking.{other_default}
 use Rattle.heco_cse.proofs.Copying.{operands_at}
 

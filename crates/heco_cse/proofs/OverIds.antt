@@ -16,10 +16,6 @@ use Rattle.heco_ir.proofs.Renaming.{get_or-map-lt}
 use Rattle.heco_ir.proofs.Unique.{below_one, below_two}
 use Rattle.heco_cse.specs.Dead.{at_id, over_ids}
 
-pub length-numbers : (ids : List NodeId) → length (numbers ids) ≡ length ids
-length-numbers [] = refl
-length-numbers (d ∷ ids) = ap suc (length-numbers ids)
-
 pub one_id : (v u : NodeId) → v.0 ≡ u.0 → v ≡ u
 one_id v u e = ap (λ k. record { 0 = k }) e
 

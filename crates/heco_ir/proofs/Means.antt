@@ -28,7 +28,7 @@ pub below_append : (m : ℕ) (xs : List ℕ) (y : ℕ) → all_below m xs ≡ tr
 below_append m [] y h lt = both _ _ (lt-ltb y m lt) refl
 below_append m (x ∷ xs) y h lt = both _ _ (left _ _ h) (below_append m xs y (right (nat_lt x m) _ h) lt)
 
-length-numbers : (ids : List NodeId) → length (numbers ids) ≡ length ids
+pub length-numbers : (ids : List NodeId) → length (numbers ids) ≡ length ids
 length-numbers [] = refl
 length-numbers (d ∷ ids) = ap suc (length-numbers ids)
 

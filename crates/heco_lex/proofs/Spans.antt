@@ -10,9 +10,9 @@ some_bytes : (cs : List ℕ) (n : ℕ) (kind : TokenKind) → IsLongest cs n kin
 some_bytes cs zero kind l = let h : kind_of [] ≡ Some kind = l.is_token in cc
 some_bytes cs (suc n) kind l = omega arith
 
-earlier : (text : List ℕ) (at from : ℕ) (ts : List Token) → from ≤ at → AreSpans text at ts → AreSpans text from ts
-earlier text at from [] le s = tt
-earlier text at from (t ∷ ts) le s = (omega arith, s.1, s.2, s.3, s.4)
+pub from_earlier : (text : List ℕ) (at from : ℕ) (ts : List Token) → from ≤ at → AreSpans text at ts → AreSpans text from ts
+from_earlier text at from [] le s = tt
+from_earlier text at from (t ∷ ts) le s = (omega arith, s.1, s.2, s.3, s.4)
 
 rest_within : (cs : List ℕ) → line_rest cs ≤ length cs
 rest_within [] = omega arith
@@ -23,10 +23,10 @@ spans text nothing le e = tt
 spans text (blank {at = at} {c = c} {cs = cs} {ts = ts} h s) le e =
     let some : length (c ∷ cs) ≡ length (drop at text) = ap length e in
     let next : cs ≡ drop (at + 1) text = ap (drop 1) e ∙ drop-drop 1 at text in
-    earlier text (at + 1) at ts (omega arith) (spans text s (omega (arith, length-drop at text)) next)
+    from_earlier text (at + 1) at ts (omega arith) (spans text s (omega (arith, length-drop at text)) next)
 spans text (comment {at = at} {cs = cs} {ts = ts} h s) le e =
     let same : length cs ≡ length (drop at text) = ap length e in
-    earlier text (at + line_rest cs) at ts (omega arith)
+    from_earlier text (at + line_rest cs) at ts (omega arith)
     (spans text s (omega (arith, length-drop at text, rest_within cs)) (ap (drop (line_rest cs)) e ∙ drop-drop (line_rest cs) at text))
 spans text (token {at = at} {n = n} {cs = cs} {ts = ts} {kind = kind} l s) le e =
     let same : length cs ≡ length (drop at text) = ap length e in

@@ -88,7 +88,3 @@ many_picked l (more {ts = ts} {x = x} i m) = behind (picked l ts x i) (many_pick
 
 pub many_leaves : {A : Type 0} {Is : Spells A} {f : A → List Kept} → Leaves Is f → Leaves (Many Is) (flat_map f)
 many_leaves l = leaves (λ ts xs m. many_picked l m)
-
-pub flat_of_map : {X Y : Type 0} (f : X → List Y) (xs : List X) → flat_map (λ p. p) (map f xs) ≡ flat_map f xs
-flat_of_map f [] = refl
-flat_of_map f (x ∷ xs) = ap (λ v. f x ++ v) (flat_of_map f xs)

@@ -1,11 +1,12 @@
 -- What an expression keeps is picked from its tokens.
 use Rattle.std.proofs.Common.{◌≡◌, ◌∙◌, sym, ap, subst, ℕ, List, [], ◌∷◌, ◌++◌, Bool, Some, None, Option, append-nil}
+use Rattle.std.proofs.lemmas.List.Folds.{flat_map-map}
 use Rattle.std.specs.List.{flat_map}
 use Rattle.heco_lex.specs.declared.place.Place.{Place}
 use Rattle.heco_lex.specs.declared.token.TokenKind.{TokenKind}
 use Rattle.heco_lex.specs.declared.token.TokenKind.TheVariants as k
 use Rattle.heco_syntax.specs.Grammar.{IsFactor, IsProduct, AreFactors, IsSum, AreProducts, literal, name, item, negative, group, product, no_factor, factors, sum, no_product, products}
-use Rattle.heco_syntax.specs.Kept.{Kept, kept_ident, kept_num, kept_place, kept_step, kept_sum_step, kept_product_step, kept_expr}
+use Rattle.heco_syntax.specs.Kept.{Kept, kept_ident, kept_num, kept_place, kept_step, kept_sum_step, kept_product_step, kept_sum_part, kept_product_part, kept_expr}
 use Rattle.heco_syntax.specs.Parts.{ident_of, num_of, with_place, sum_sign_of, product_sign_by, sum_part, product_part, sum_of, product_of}
 use Rattle.heco_syntax.specs.declared.lexeme.Lexeme.{Lexeme}
 use Rattle.heco_syntax.specs.declared.tree.Expr.{Expr, fold-roll-Expr}
@@ -13,15 +14,9 @@ use Rattle.heco_syntax.specs.declared.tree.Expr.TheOpen.{Expr-F}
 use Rattle.heco_syntax.specs.declared.tree.Expr.TheVariants as e
 use Rattle.heco_syntax.specs.declared.tree.Ident.{Ident}
 use Rattle.heco_syntax.specs.declared.tree.Num.{Num}
-use Rattle.heco_syntax.specs.declared.tree.ProdPart.{ProdPart, fold-ProdPart, fold-roll-ProdPart}
-use Rattle.heco_syntax.specs.declared.tree.SumPart.{SumPart, fold-SumPart, fold-roll-SumPart}
-use Rattle.heco_order.proofs.Picked.{Picks, ended, skip, pick, behind, passed, place_kept, word_kept, flat_of_map}
-
-abbrev kept_sum_part : SumPart → List Kept
-kept_sum_part p = fold-SumPart (List Kept) (List Kept) (List Kept) kept_step kept_product_step kept_sum_step p
-
-abbrev kept_product_part : ProdPart → List Kept
-kept_product_part p = fold-ProdPart (List Kept) (List Kept) (List Kept) kept_step kept_product_step kept_sum_step p
+use Rattle.heco_syntax.specs.declared.tree.ProdPart.{ProdPart, fold-roll-ProdPart}
+use Rattle.heco_syntax.specs.declared.tree.SumPart.{SumPart, fold-roll-SumPart}
+use Rattle.heco_order.proofs.Picked.{Picks, ended, skip, pick, behind, passed, place_kept, word_kept}
 
 kept_lit : (n : Num) → kept_expr (e.Lit n) ≡ kept_num n
 kept_lit n = ap kept_expr (sym (e.rolls-Lit n)) ∙ fold-roll-Expr (List Kept) (List Kept) (List Kept) kept_step kept_product_step kept_sum_step (Expr-F.Lit n)
@@ -37,11 +32,11 @@ kept_neg at x = ap kept_expr (sym (e.rolls-Neg at x)) ∙ fold-roll-Expr (List K
 
 kept_sum : (first : Expr) (ps : List SumPart) → kept_expr (e.Sum first ps) ≡ kept_expr first ++ flat_map kept_sum_part ps
 kept_sum first ps = ap kept_expr (sym (e.rolls-Sum first ps)) ∙ fold-roll-Expr (List Kept) (List Kept) (List Kept) kept_step kept_product_step kept_sum_step (Expr-F.Sum first ps)
-    ∙ ap (λ v. kept_expr first ++ v) (flat_of_map kept_sum_part ps)
+    ∙ ap (λ v. kept_expr first ++ v) (flat_map-map (λ p. p) kept_sum_part ps)
 
 kept_prod : (first : Expr) (ps : List ProdPart) → kept_expr (e.Prod first ps) ≡ kept_expr first ++ flat_map kept_product_part ps
 kept_prod first ps = ap kept_expr (sym (e.rolls-Prod first ps)) ∙ fold-roll-Expr (List Kept) (List Kept) (List Kept) kept_step kept_product_step kept_sum_step (Expr-F.Prod first ps)
-    ∙ ap (λ v. kept_expr first ++ v) (flat_of_map kept_product_part ps)
+    ∙ ap (λ v. kept_expr first ++ v) (flat_map-map (λ p. p) kept_product_part ps)
 
 kept_sum_of : (first : Expr) (ps : List SumPart) → kept_expr (sum_of first ps) ≡ kept_expr first ++ flat_map kept_sum_part ps
 kept_sum_of first [] = sym (append-nil (kept_expr first))

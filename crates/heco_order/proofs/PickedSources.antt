@@ -1,5 +1,6 @@
 -- What statements and sources keep is picked from their tokens.
 use Rattle.std.proofs.Common.{◌≡◌, ◌∙◌, sym, ap, subst, refl, ℕ, zero, suc, List, [], ◌∷◌, ◌++◌, Some, None, Option, append_assoc, ◌⊎◌}
+use Rattle.std.proofs.lemmas.List.Folds.{flat_map-map}
 use Rattle.std.specs.List.{flat_map}
 use Rattle.heco_lex.specs.declared.place.Place.{Place}
 use Rattle.heco_lex.specs.declared.token.TokenKind.{TokenKind}
@@ -20,7 +21,7 @@ use Rattle.heco_syntax.specs.declared.tree.Source.{Source}
 use Rattle.heco_syntax.specs.declared.tree.Stmt.{Stmt, fold-roll-Stmt}
 use Rattle.heco_syntax.specs.declared.tree.Stmt.TheOpen.{Stmt-F}
 use Rattle.heco_syntax.specs.declared.tree.Stmt.TheVariants as s
-use Rattle.heco_order.proofs.Picked.{Picks, ended, pick, place_kept, word_kept, Carries, Leaves, leaves, picked, adds, then_carries, or_carries, yields_carries, one_passed, known_passed, known_leaves, word_leaves, number_leaves, many_leaves, flat_of_map}
+use Rattle.heco_order.proofs.Picked.{Picks, ended, pick, place_kept, word_kept, Carries, Leaves, leaves, picked, adds, then_carries, or_carries, yields_carries, one_passed, known_passed, known_leaves, word_leaves, number_leaves, many_leaves}
 use Rattle.heco_order.proofs.PickedExpressions.{sum_picked, placed}
 
 kept_int_one : (at : Place) (name : Ident) (x : Expr) → kept_stmt (s.IntOne at name x) ≡ kept_place at ++ (kept_ident name ++ kept_expr x)
@@ -40,7 +41,7 @@ kept_set name i o at x = ap kept_stmt (sym (s.rolls-Set name i o at x)) ∙ fold
 
 kept_loop : (at : Place) (name : Ident) (low high : Expr) (body : List Stmt) → kept_stmt (s.Loop at name low high body) ≡ kept_place at ++ (kept_ident name ++ (kept_expr low ++ (kept_expr high ++ flat_map kept_stmt body)))
 kept_loop at name low high body = ap kept_stmt (sym (s.rolls-Loop at name low high body)) ∙ fold-roll-Stmt (List Kept) kept_stmt_step (Stmt-F.Loop at name low high body)
-    ∙ ap (λ v. kept_place at ++ (kept_ident name ++ (kept_expr low ++ (kept_expr high ++ v)))) (flat_of_map kept_stmt body)
+    ∙ ap (λ v. kept_place at ++ (kept_ident name ++ (kept_expr low ++ (kept_expr high ++ v)))) (flat_map-map (λ p. p) kept_stmt body)
 
 expression_leaves : (n : ℕ) → Leaves (g.expression n) kept_expr
 expression_leaves n = leaves (λ ts x i. sum_picked i)

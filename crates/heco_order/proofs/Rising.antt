@@ -11,6 +11,7 @@ use Rattle.heco_lex.specs.declared.token.Token.{Token}
 use Rattle.heco_lex.specs.declared.token.TokenKind.TheVariants as k
 use Rattle.heco_syntax.proofs.KindFacts.{word_is_word}
 use Rattle.heco_syntax.proofs.PlaceFacts.{since-append, lines-append}
+use Rattle.heco_syntax.proofs.PlaceOrder.{before_trans}
 use Rattle.heco_syntax.specs.Kept.{Kept, Before, RiseFrom, AreRising, AllNamed}
 use Rattle.heco_syntax.specs.Lexemes.{lexemes_of, text_of}
 use Rattle.heco_syntax.specs.declared.lexeme.Lexeme.{Lexeme}
@@ -41,15 +42,9 @@ place_before text a b lt le =
     let both : take b text ≡ take a text ++ take (b - a) (drop a text) = ap (λ n. take n text) (sym e) ∙ take-add a (b - a) text in
     subst (λ v. Before (place_in text a) (moved v)) (sym both) (moved_before (take a text) (take (b - a) (drop a text)) (omega arith))
 
-later : (p q r : Place) → Before p q → Before q r → Before p r
-later p q r (inl a) (inl b) = inl (omega arith)
-later p q r (inl a) (inr b) = inl (let e = b.0 in omega arith)
-later p q r (inr a) (inl b) = inl (let e = a.0 in omega arith)
-later p q r (inr a) (inr b) = inr (a.0 ∙ b.0, (let c = a.1 in let d = b.1 in omega arith))
-
 rise_later : (p q : Place) (xs : List Kept) → Before p q → RiseFrom q xs → RiseFrom p xs
 rise_later p q [] h r = tt
-rise_later p q (x ∷ xs) h r = (later p q x.at h r.0, r.1)
+rise_later p q (x ∷ xs) h r = (before_trans p q x.at h r.0, r.1)
 
 -- the tokens stand behind the place, one behind another
 abbrev Stand : Place → List Lexeme → Type 0

@@ -1,5 +1,6 @@
 -- The tokens of each form of an expression.
 use Rattle.std.proofs.Common.{◌≡◌, ◌∙◌, sym, ap, refl, List, [], ◌∷◌, ◌++◌, Bool, map, append_assoc}
+use Rattle.std.proofs.lemmas.List.Folds.{flat_map-map}
 use Rattle.std.specs.List.{flat_map}
 use Rattle.std.specs.Prelude.{if◌then◌else◌, Result, Ok, Err, OnOk}
 use Rattle.heco_lex.specs.declared.place.Place.{Place}
@@ -27,17 +28,13 @@ spelled_item id x = ap spelled (sym (e.rolls-Item id x)) ∙ fold-roll-Expr Spel
 pub spelled_neg : (at : Place) (x : Expr) → spelled (e.Neg at x) ≡ record { rank = 0; tokens = mark_at k.Minus at ∷ wrapped 0 (spelled x) }
 spelled_neg at x = ap spelled (sym (e.rolls-Neg at x)) ∙ fold-roll-Expr Spelled (List Lexeme) (List Lexeme) spell_step product_part_step sum_part_step (Expr-F.Neg at x)
 
-pub flat_of_map : {X : Type 0} (f : X → List Lexeme) (xs : List X) → flat_map (λ ts. ts) (map f xs) ≡ flat_map f xs
-flat_of_map f [] = refl
-flat_of_map f (x ∷ xs) = ap (λ v. f x ++ v) (flat_of_map f xs)
-
 pub spelled_sum : (first : Expr) (ps : List SumPart) → spelled (e.Sum first ps) ≡ record { rank = 2; tokens = wrapped 1 (spelled first) ++ flat_map spelled_sum_part ps }
 spelled_sum first ps = ap spelled (sym (e.rolls-Sum first ps)) ∙ fold-roll-Expr Spelled (List Lexeme) (List Lexeme) spell_step product_part_step sum_part_step (Expr-F.Sum first ps)
-    ∙ ap (λ (v : List Lexeme). record { rank = 2; tokens = wrapped 1 (spelled first) ++ v }) (flat_of_map spelled_sum_part ps)
+    ∙ ap (λ (v : List Lexeme). record { rank = 2; tokens = wrapped 1 (spelled first) ++ v }) (flat_map-map (λ ts. ts) spelled_sum_part ps)
 
 pub spelled_prod : (first : Expr) (ps : List ProdPart) → spelled (e.Prod first ps) ≡ record { rank = 1; tokens = wrapped 0 (spelled first) ++ flat_map spelled_product_part ps }
 spelled_prod first ps = ap spelled (sym (e.rolls-Prod first ps)) ∙ fold-roll-Expr Spelled (List Lexeme) (List Lexeme) spell_step product_part_step sum_part_step (Expr-F.Prod first ps)
-    ∙ ap (λ (v : List Lexeme). record { rank = 1; tokens = wrapped 0 (spelled first) ++ v }) (flat_of_map spelled_product_part ps)
+    ∙ ap (λ (v : List Lexeme). record { rank = 1; tokens = wrapped 0 (spelled first) ++ v }) (flat_map-map (λ ts. ts) spelled_product_part ps)
 
 pub spelled_sums : (s : Bool × Place) (x : Expr) → spelled_sum_part (sum_part s x) ≡ mark_at (if s.0 then k.Minus else k.Plus) s.1 ∷ wrapped 1 (spelled x)
 spelled_sums s x = fold-roll-SumPart Spelled (List Lexeme) (List Lexeme) spell_step product_part_step sum_part_step (record { minus = s.0; at = s.1; of = x })

@@ -28,10 +28,6 @@ next_drop ts i d lt = drop-cons ts i d lt ∙ ap (λ n. get_or ts i d ∷ drop n
 pub first_span : (text : List ℕ) (from : ℕ) (ts : List Token) (i : ℕ) (d : Token) → i < length ts → AreSpans text from (drop i ts) → AreSpans text from (get_or ts i d ∷ drop (i + 1) ts)
 first_span text from ts i d lt s = subst (λ v. AreSpans text from v) (next_drop ts i d lt) s
 
-pub later_spans : (text : List ℕ) (at from : ℕ) (ts : List Token) → from ≤ at → AreSpans text at ts → AreSpans text from ts
-later_spans text at from [] le s = tt
-later_spans text at from (t ∷ ts) le s = (omega arith, s.1, s.2, s.3, s.4)
-
 pub one_more : (text : List ℕ) (ts : List Token) (i : ℕ) (d : Token) (old new : List Lexeme) → i < length ts → old ++ lexemes_of text (drop i ts) ≡ lexemes_of text ts → new ≡ old ++ lexeme_of text (get_or ts i d) ∷ []
     → new ++ lexemes_of text (drop (i + 1) ts) ≡ lexemes_of text ts
 one_more text ts i d old new lt h e = ap (λ v. v ++ lexemes_of text (drop (i + 1) ts)) e ∙ append_assoc old (lexeme_of text (get_or ts i d) ∷ []) (lexemes_of text (drop (i + 1) ts))

@@ -1,3 +1,4 @@
 pub mod KindFacts
 pub mod PlaceFacts
+pub mod PlaceOrder
 pub mod LexemeFacts

@@ -8,9 +8,11 @@ use Rattle.heco_syntax.specs.declared.tree.Expr.TheOpen.{Expr-F, SumPart-F, Prod
 use Rattle.heco_syntax.specs.declared.tree.Ident.{Ident}
 use Rattle.heco_syntax.specs.declared.tree.Num.{Num}
 use Rattle.heco_syntax.specs.declared.tree.Param.{Param}
+use Rattle.heco_syntax.specs.declared.tree.ProdPart.{ProdPart, fold-ProdPart}
 use Rattle.heco_syntax.specs.declared.tree.Source.{Source}
 use Rattle.heco_syntax.specs.declared.tree.Stmt.{Stmt, fold-Stmt}
 use Rattle.heco_syntax.specs.declared.tree.Stmt.TheOpen.{Stmt-F}
+use Rattle.heco_syntax.specs.declared.tree.SumPart.{SumPart, fold-SumPart}
 
 pub record Kept : Type 0 where
   pub name : Option (List ℕ)
@@ -41,6 +43,12 @@ kept_product_step p = kept_place p.at ++ p.of
 
 abbrev pub kept_expr : Expr → List Kept
 kept_expr x = fold-Expr (List Kept) (List Kept) (List Kept) kept_step kept_product_step kept_sum_step x
+
+abbrev pub kept_sum_part : SumPart → List Kept
+kept_sum_part p = fold-SumPart (List Kept) (List Kept) (List Kept) kept_step kept_product_step kept_sum_step p
+
+abbrev pub kept_product_part : ProdPart → List Kept
+kept_product_part p = fold-ProdPart (List Kept) (List Kept) (List Kept) kept_step kept_product_step kept_sum_step p
 
 abbrev pub kept_some : {A : Type 0} → (A → List Kept) → Option A → List Kept
 kept_some f None = []

@@ -4,6 +4,7 @@ pub mod Kept
 pub mod Lexemes
 pub mod Limits
 pub mod Parts
+pub mod Ports
 pub mod Productions
 pub mod Sources
 pub mod Wellformed

@@ -4,6 +4,7 @@
 mod first;
 mod lexeme;
 mod lexing;
+mod port;
 mod tree;
 
 pub use first::First;

@@ -5,6 +5,7 @@ use Rattle.std.specs.List.{Contains}
 use Rattle.std.proofs.lemmas.List.Elements.{Contains-append_left, Contains-append_right, Contains-append_cases, Contains-push, Contains-push_cases}
 use Rattle.heco_lex.specs.declared.place.Place.{Place}
 use Rattle.heco_lex.specs.declared.rule.Rule.{Rule}
+use Rattle.heco_syntax.proofs.PlaceOrder.{before_trans}
 use Rattle.heco_syntax.specs.Kept.{Kept, Before, RiseFrom, AreRising, kept_ident, kept_source}
 use Rattle.heco_syntax.specs.Wellformed.{IsWellformed}
 use Rattle.heco_syntax.specs.declared.tree.Source.{Source}
@@ -68,19 +69,9 @@ abbrev AreSitesRising : List Site → Type 0
 AreSitesRising [] = Unit {0}
 AreSitesRising (s ∷ ss) = AllBehind s.at ss × AreSitesRising ss
 
-before-trans : (p q r : Place) → Before p q → Before q r → Before p r
-before-trans p q r a b =
-    elim a [
-      | inl x ↦ elim b [ inl y ↦ inl (omega arith) | inr y ↦ inl (let e : q.line ≡ r.line = y.0 in omega arith) ]
-      | inr x ↦ elim b [
-        | inl y ↦ inl (let e : p.line ≡ q.line = x.0 in omega arith)
-        | inr y ↦ inr (x.0 ∙ y.0, (let c : p.col < q.col = x.1 in let d : q.col < r.col = y.1 in omega arith))
-      ]
-    ]
-
 behind-before : (p q : Place) (ss : List Site) → Before p q → AllBehind q ss → AllBehind p ss
 behind-before p q [] b a = tt
-behind-before p q (s ∷ ss) b a = (before-trans p q s.at b a.0, behind-before p q ss b a.1)
+behind-before p q (s ∷ ss) b a = (before_trans p q s.at b a.0, behind-before p q ss b a.1)
 
 sub-behind : (p : Place) {ss : List Site} {ks : List Kept} → RiseFrom p ks → Sub ss ks → AllBehind p ss
 sub-behind p r sub_none = tt

@@ -17,7 +17,8 @@ use Rattle.heco_syntax.specs.declared.tree.Source.{Source}
 use Rattle.heco_types.specs.Names.{Name, visible, is_secret, is_assignable}
 use Rattle.heco_types.specs.Parameters.{of_length, of_params, of_source, param_limit, param_name, sites}
 use Rattle.heco_types.specs.Presets.{names_preset, slots_named}
-use Rattle.heco_types.specs.Shapes.{length_of, shape_of, shapes_of, AllShort}
+use Rattle.heco_syntax.specs.Ports.{length_of}
+use Rattle.heco_types.specs.Shapes.{shape_of, shapes_of, AllShort}
 use Rattle.heco_types.specs.Sites.{Site, site, first, refusal, refusal_at}
 use Rattle.heco_types.specs.Table.{Role, preset_word, parameter, declares, targets, uses, counts, differ, is_broken, earliest}
 use Rattle.heco_types.specs.Typing.{IsFine, IsFineAt, HasLength, IsWithin, AreParameters, IsTyped}

@@ -2,18 +2,18 @@
 use Rattle.std.proofs.Common.{◌≡◌, refl, ap, subst, ◌⊎◌, inl, inr, List, [], ◌∷◌, ◌++◌, map, Option, Some, None, ℕ, suc}
 use Rattle.std.specs.List.{flat_map}
 use Rattle.heco_lex.specs.declared.place.Place.{Place}
-use Rattle.heco_syntax.specs.Kept.{Kept, kept_ident, kept_num, kept_step, kept_product_step, kept_sum_step, kept_expr, kept_some, kept_stmt_step, kept_stmt, kept_param}
+use Rattle.heco_syntax.specs.Kept.{Kept, kept_ident, kept_num, kept_step, kept_product_step, kept_sum_step, kept_sum_part, kept_product_part, kept_expr, kept_some, kept_stmt_step, kept_stmt, kept_param}
 use Rattle.heco_syntax.specs.declared.tree.Expr.{Expr, ind-Expr, roll-Expr}
 use Rattle.heco_syntax.specs.declared.tree.Expr.TheFolds.{map-Expr, map-ProdPart, map-SumPart, fold-roll-Expr, fold-roll-ProdPart, fold-roll-SumPart}
 use Rattle.heco_syntax.specs.declared.tree.Expr.TheOpen.{Expr-F, SumPart-F, ProdPart-F}
 use Rattle.heco_syntax.specs.declared.tree.Num.{Num}
 use Rattle.heco_syntax.specs.declared.tree.Param.{Param}
-use Rattle.heco_syntax.specs.declared.tree.ProdPart.{ProdPart, roll-ProdPart, fold-ProdPart}
+use Rattle.heco_syntax.specs.declared.tree.ProdPart.{ProdPart, roll-ProdPart}
 use Rattle.heco_syntax.specs.declared.tree.Source.{Source}
 use Rattle.heco_syntax.specs.declared.tree.Stmt.{Stmt, ind-Stmt, roll-Stmt}
 use Rattle.heco_syntax.specs.declared.tree.Stmt.TheFolds.{map-Stmt, fold-roll-Stmt}
 use Rattle.heco_syntax.specs.declared.tree.Stmt.TheOpen.{Stmt-F}
-use Rattle.heco_syntax.specs.declared.tree.SumPart.{SumPart, roll-SumPart, fold-SumPart}
+use Rattle.heco_syntax.specs.declared.tree.SumPart.{SumPart, roll-SumPart}
 use Rattle.heco_types.specs.Expressions.{Told, each, of_layer, of_product_layer, of_sum_layer, of_expr, of_product, of_sum}
 use Rattle.heco_types.specs.Names.{Name}
 use Rattle.heco_types.specs.Parameters.{of_length, of_params, of_source, param_limit, param_name}
@@ -21,12 +21,6 @@ use Rattle.heco_types.specs.Sites.{Report, Site}
 use Rattle.heco_types.specs.Statements.{Judged, of_maybe, block, stmt_layer, judged, of_block}
 use Rattle.heco_types.specs.declared.context.Context.{Context}
 use Rattle.heco_types.specs.declared.context.Context.TheVariants.{Anywhere, Index, Bound, IntValue}
-
-abbrev kept_product : ProdPart → List Kept
-kept_product p = fold-ProdPart (List Kept) (List Kept) (List Kept) kept_step kept_product_step kept_sum_step p
-
-abbrev kept_sum : SumPart → List Kept
-kept_sum p = fold-SumPart (List Kept) (List Kept) (List Kept) kept_step kept_product_step kept_sum_step p
 
 -- the relation holds of nothing and of one site, and goes on over what comes next and over a nameless token at which nothing is tried
 pub record Follows {M N : Type 0} (r : Report M) (q : Report N) (R : M → N → List Kept → Type 0) : Type 0 where
@@ -43,18 +37,18 @@ module _ {M N : Type 0} (r : Report M) (q : Report N) (R : M → N → List Kept
   ExprFollows x = (context : Context) (names : List Name) → R (of_expr r x context names) (of_expr q x context names) (kept_expr x)
 
   abbrev ProductFollows : ProdPart → Type 0
-  ProductFollows p = (context : Context) (names : List Name) → R (of_product r p context names) (of_product q p context names) (kept_product p)
+  ProductFollows p = (context : Context) (names : List Name) → R (of_product r p context names) (of_product q p context names) (kept_product_part p)
 
   abbrev SumFollows : SumPart → Type 0
-  SumFollows p = (context : Context) (names : List Name) → R (of_sum r p context names) (of_sum q p context names) (kept_sum p)
+  SumFollows p = (context : Context) (names : List Name) → R (of_sum r p context names) (of_sum q p context names) (kept_sum_part p)
 
   sums-follow : (ys : List ((p : SumPart) × SumFollows p)) (context : Context) (names : List Name)
-      → R (each r (map (of_sum r) (map (λ y. y.0) ys)) context names) (each q (map (of_sum q) (map (λ y. y.0) ys)) context names) (flat_map (λ ks. ks) (map kept_sum (map (λ y. y.0) ys)))
+      → R (each r (map (of_sum r) (map (λ y. y.0) ys)) context names) (each q (map (of_sum q) (map (λ y. y.0) ys)) context names) (flat_map (λ ks. ks) (map kept_sum_part (map (λ y. y.0) ys)))
   sums-follow [] context names = f.nothing
   sums-follow (y ∷ ys) context names = f.next _ _ _ _ _ _ (y.1 context names) (sums-follow ys context names)
 
   products-follow : (ys : List ((p : ProdPart) × ProductFollows p)) (context : Context) (names : List Name)
-      → R (each r (map (of_product r) (map (λ y. y.0) ys)) context names) (each q (map (of_product q) (map (λ y. y.0) ys)) context names) (flat_map (λ ks. ks) (map kept_product (map (λ y. y.0) ys)))
+      → R (each r (map (of_product r) (map (λ y. y.0) ys)) context names) (each q (map (of_product q) (map (λ y. y.0) ys)) context names) (flat_map (λ ks. ks) (map kept_product_part (map (λ y. y.0) ys)))
   products-follow [] context names = f.nothing
   products-follow (y ∷ ys) context names = f.next _ _ _ _ _ _ (y.1 context names) (products-follow ys context names)
 
@@ -63,7 +57,7 @@ module _ {M N : Type 0} (r : Report M) (q : Report N) (R : M → N → List Kept
 
   layer-follows : (y : Expr-F ((x : Expr) × ExprFollows x) ((p : ProdPart) × ProductFollows p) ((p : SumPart) × SumFollows p)) (context : Context) (names : List Name)
       → R (of_layer r (map-Expr _ _ _ _ _ _ (of_expr r) (of_product r) (of_sum r) (bare y)) context names) (of_layer q (map-Expr _ _ _ _ _ _ (of_expr q) (of_product q) (of_sum q) (bare y)) context names)
-      (kept_step (map-Expr _ _ _ _ _ _ kept_expr kept_product kept_sum (bare y)))
+      (kept_step (map-Expr _ _ _ _ _ _ kept_expr kept_product_part kept_sum_part (bare y)))
   layer-follows (Expr-F.Lit n) context names = f.skip _ _ _ _ f.nothing
   layer-follows (Expr-F.One name) context names = f.test _ _ (inl refl)
   layer-follows (Expr-F.Item name index) context names = f.next _ _ _ _ _ _ (f.test _ _ (inl refl)) (index.1 Index names)

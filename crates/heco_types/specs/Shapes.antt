@@ -1,15 +1,10 @@
 -- The inputs and the outputs of a source.
-use Rattle.std.specs.Prelude.{ℕ, ◌<◌, ◌^◌, Bool, not, List, map, Option, Some, None}
+use Rattle.std.specs.Prelude.{ℕ, ◌<◌, ◌^◌, Bool, not, List, map}
 use Rattle.std.specs.List.{All, filter}
 use Rattle.heco_nums.specs.declared.shape.Shape.{Shape}
-use Rattle.heco_syntax.specs.declared.tree.Num.{Num}
+use Rattle.heco_syntax.specs.Ports.{length_of}
 use Rattle.heco_syntax.specs.declared.tree.Param.{Param}
 use Rattle.heco_types.specs.Table.{differ}
-
--- an absent length is 1
-abbrev pub length_of : Option Num → ℕ
-length_of None = 1
-length_of (Some len) = len.value
 
 abbrev pub shape_of : Param → Shape
 shape_of p = record { name = p.name.text; len = length_of p.len }

@@ -10,7 +10,7 @@ use Rattle.heco_types.specs.FirstBroken.{BreaksNone}
 use Rattle.heco_types.specs.Names.{visible, is_secret, is_assignable}
 use Rattle.heco_types.specs.Parameters.{of_source, param_limit, sites}
 use Rattle.heco_types.specs.Presets.{slots_named}
-use Rattle.heco_types.specs.Shapes.{length_of}
+use Rattle.heco_syntax.specs.Ports.{length_of}
 use Rattle.heco_types.specs.Sites.{Site, first}
 use Rattle.heco_types.specs.Table.{Role, preset_word, parameter, declares, targets, uses, counts}
 use Rattle.heco_types.specs.declared.context.Context.{Context}

@@ -1,20 +1,10 @@
 ghost use Rattle.std.specs.Prelude.{◌≡◌, ◌<◌, ◌^◌, IfOk};
-ghost use Rattle.heco_types.specs.Shapes.{shapes_of, AllShort, length_of, shape_of};
+ghost use Rattle.heco_syntax.specs.Ports.{length_of};
+ghost use Rattle.heco_types.specs.Shapes.{shapes_of, AllShort, shape_of};
 
 use heco_nums::{Bytes, List, Memory, Shape};
-use heco_syntax::{Num, Param};
+use heco_syntax::Param;
 use std::alloc::Global;
-
-// An absent length is 1.
-fn length(len: Option<Num>) -> u32
-    requires { length_of len < 2 ^ 32 }
-    ensures { result ≡ length_of len }
-{
-    match len {
-        None => 1,
-        Some(len) => len.value as u32,
-    }
-}
 
 fn shape(alloc: Global, p: &Param) -> Result<Shape, Memory>
     requires { length_of p.now.len < 2 ^ 32 }
@@ -23,7 +13,7 @@ fn shape(alloc: Global, p: &Param) -> Result<Shape, Memory>
     let name = Bytes::from_slice(alloc, p.name.text.as_slice())?;
     Ok(Shape {
         name,
-        len: length(p.len),
+        len: p.length() as u32,
     })
 }
 

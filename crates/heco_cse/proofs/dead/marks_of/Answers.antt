@@ -2,13 +2,12 @@ use Rattle.std.proofs.Common.{◌≡◌, ◌+◌, ◌-◌, ◌<◌, length, refl
 use Rattle.std.proofs.lemmas.List.{length-replicate}
 use Rattle.heco_ir.specs.Values.{all_below, numbers}
 use Rattle.heco_ir.specs.Vectors.{vector_operands}
-use Rattle.heco_ir.proofs.Means.{root_below, below_more_ids}
+use Rattle.heco_ir.proofs.Means.{root_below, below_more_ids, length-numbers}
 use Rattle.heco_ir.proofs.Renaming.{get_or-map-lt}
 use Rattle.heco_cse.specs.Dead.{Marks}
 use Rattle.heco_cse.proofs.Marking.{marked_at, unmarked_at, marking_next, marking_end}
 use Rattle.heco_cse.proofs.UsedMarks.{marks_start, marks_next, marks_skip}
 use Rattle.heco_cse.proofs.Copying.{operands_at}
-use Rattle.heco_cse.proofs.OverIds.{length-numbers}
 use Rattle.heco_cse.proofs.dead.marks_of.Goals as goal
 
 pub index_mut-requires : goal.index_mut-requires

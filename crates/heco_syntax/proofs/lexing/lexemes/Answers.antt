@@ -2,7 +2,8 @@ use Rattle.std.proofs.Common.{◌∙◌, ap, ◌-◌, ◌∷◌, ◌++◌, [], a
 use Rattle.std.proofs.lemmas.List.{length-take-le, length-drop}
 use Rattle.heco_lex.specs.declared.token.Token.{Token}
 use Rattle.heco_lex.specs.declared.token.TokenKind.TheVariants as k
-use Rattle.heco_syntax.proofs.LexemeFacts.{first_span, later_spans, next_place, near_place, one_more}
+use Rattle.heco_lex.proofs.Spans.{from_earlier}
+use Rattle.heco_syntax.proofs.LexemeFacts.{first_span, next_place, near_place, one_more}
 use Rattle.heco_syntax.proofs.lexing.lexemes.Goals as goal
 
 no_token : Token
@@ -28,7 +29,7 @@ loop-token-preserved c =
     record {
       done = one_more c.args.text.now c.args.tokens.now c.loop-token.token-index no_token c.loop-token.found c.push.new.self c.loop-token-test.true c.loop-token.invariant.done
           (c.in_ok-push.ensures.ok ∙ ap (λ v. c.loop-token.found ++ v ∷ []) c.in_ok-next.ensures);
-      spans = later_spans c.args.text.now _ _ _ (omega (arith, s.1)) s.4;
+      spans = from_earlier c.args.text.now _ _ _ (omega (arith, s.1)) s.4;
       place = next_place c.args.text.now c.loop-token.from (get_or c.args.tokens.now c.loop-token.token-index no_token).from c.loop-token.at c.place_behind-at.result s.0 c.loop-token.invariant.place c.place_behind-at.ensures.line c.place_behind-at.ensures.col;
       within = omega (arith, s.1, s.2);
     }
