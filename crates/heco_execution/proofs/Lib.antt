@@ -1,6 +1,7 @@
 pub mod Evaluations
 pub mod ExpressionLemmas
 pub mod Following
+pub mod Made
 pub mod NameLemmas
 pub mod OutcomeLemmas
 pub mod Runs

@@ -14,7 +14,8 @@ use Rattle.heco_execution.specs.Secrets.{Secrets, Stored, storeless, numbers, te
 use Rattle.heco_execution.specs.States.{State, nothing, place_of, list_at, list_of, declared}
 use Rattle.heco_execution.specs.Steps.{give, then}
 use Rattle.heco_execution.specs.Execution.{zeros}
-use Rattle.heco_execution.specs.Whole.{length_of, first_row, other_rows, opened, as_secrets, with_output, outputs, execute}
+use Rattle.heco_syntax.specs.Ports.{length_of}
+use Rattle.heco_execution.specs.Whole.{first_row, other_rows, opened, as_secrets, with_output, outputs, execute}
 use Rattle.heco_execution.specs.Laws.{input_lengths, elements_from, elements, IsRow, AreRows, mapped, values_of, NumbersAreTheTermsValues}
 use Rattle.heco_execution.proofs.Following.{AllLike, Comes, Follows, then_follows, give_follows}
 use Rattle.heco_execution.proofs.Evaluations.{AreFollowed, ValueLike, StateLike, held_like, Lists, States, lists_last, states_last, as_secret_follows}

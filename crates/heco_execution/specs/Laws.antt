@@ -1,11 +1,12 @@
--- What the executions on numbers and on terms have in common.
-use Rattle.std.specs.Prelude.{◌≡◌, ℕ, zero, suc, ◌<◌, List, [], ◌∷◌, map, cond, Ok, Err}
+-- What the executions on numbers and on terms have in common, and what the terms are made of.
+use Rattle.std.specs.Prelude.{◌≡◌, ℕ, zero, suc, ◌<◌, ◌≤◌, List, [], ◌∷◌, map, cond, Ok, Err}
+use Rattle.std.specs.List.{All}
+use Rattle.heco_syntax.specs.Ports.{length_of}
 use Rattle.heco_syntax.specs.declared.tree.Param.{Param}
 use Rattle.heco_syntax.specs.declared.tree.Source.{Source}
 use Rattle.heco_written.specs.World.{World}
-use Rattle.heco_written.specs.ScalarTerm.{ScalarTerm, Element, scalar_value}
+use Rattle.heco_written.specs.ScalarTerm.{ScalarTerm, Element, IsMade, scalar_value}
 use Rattle.heco_execution.specs.Outcomes.{Outcome}
-use Rattle.heco_execution.specs.Whole.{length_of}
 use Rattle.heco_execution.specs.Plain.{plain_outputs, term_outputs}
 
 -- the lengths of the inputs, in order
@@ -56,3 +57,12 @@ abbrev pub NumbersAreTheTermsValues : Type 0
 NumbersAreTheTermsValues =
     (w : World) (source : Source) → AreRows w.modulus (input_lengths source.ports) w.inputs
     → plain_outputs w.modulus source w.inputs ≡ mapped (values_of w) (source_terms w.modulus source)
+
+-- where no rule is broken, each term is made by sums, products and negations from numbers below t and elements of inputs below the slots
+abbrev pub AreMade : ℕ → ℕ → Outcome (List (List ScalarTerm)) → Type 0
+AreMade t slots (Ok rows) = All (λ row. All (λ x. IsMade t slots x) row) rows
+AreMade t slots (Err e) = Unit {0}
+
+-- so are a source's terms where no input has more elements than there are slots
+abbrev pub TermsAreMade : Type 0
+TermsAreMade = (t slots : ℕ) (source : Source) → 0 < t → All (λ n. n ≤ slots) (input_lengths source.ports) → AreMade t slots (source_terms t source)

@@ -1,7 +1,6 @@
 -- The execution of a whole source, whatever the secrets are.
 use Rattle.std.specs.Prelude.{ℕ, cond, List, [], ◌∷◌, ◌++◌, map, Some, None}
-use Rattle.std.specs.declared.option.Option.{Option}
-use Rattle.heco_syntax.specs.declared.tree.Num.{Num}
+use Rattle.heco_syntax.specs.Ports.{length_of}
 use Rattle.heco_syntax.specs.declared.tree.Param.{Param}
 use Rattle.heco_syntax.specs.declared.tree.Source.{Source}
 use Rattle.heco_execution.specs.declared.value.Value.{Value}
@@ -11,11 +10,6 @@ use Rattle.heco_execution.specs.States.{State, nothing, list_of, declared}
 use Rattle.heco_execution.specs.Steps.{Step, give, then}
 use Rattle.heco_execution.specs.Evaluation.{as_secret}
 use Rattle.heco_execution.specs.Execution.{zeros, run_all}
-
--- a scalar has one element
-abbrev pub length_of : Option Num → ℕ
-length_of None = 1
-length_of (Some n) = n.value
 
 abbrev pub first_row : {V : Type 0} → List (List V) → List V
 first_row [] = []

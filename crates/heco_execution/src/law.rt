@@ -1,8 +1,14 @@
-ghost use Rattle.heco_execution.specs.Laws.{NumbersAreTheTermsValues};
+ghost use Rattle.heco_execution.specs.Laws.{NumbersAreTheTermsValues, TermsAreMade};
 
 /// For each source and all inputs of its shapes: the numbers that come out are the values of the terms that come out,
 /// which depend on the source and the modulus alone; and where a rule is broken, it is the same one at the same place.
 #[tactic(auto, using(crate::proofs::Wholes::numbers_are_the_terms_values))]
 pub fn numbers_are_the_values_of_terms()
     ensures { NumbersAreTheTermsValues }
+{}
+
+/// For each source and modulus, where no input has more elements than there are slots: the terms that come out are made
+/// by sums, products and negations from numbers below the modulus and elements within the slots.
+pub fn terms_are_made()
+    ensures { TermsAreMade }
 {}

@@ -14,7 +14,7 @@ mod value;
 mod whole;
 
 pub use error::EvalErr;
-pub use law::numbers_are_the_values_of_terms;
+pub use law::{numbers_are_the_values_of_terms, terms_are_made};
 pub use numbers::{Numbers, plain};
 pub use progress::Progress;
 pub use secrets::Secrets;

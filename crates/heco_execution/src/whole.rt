@@ -1,7 +1,7 @@
 ghost use Rattle.std.specs.Prelude.{◌≡◌, ℕ, [], ◌∷◌, IfOk, IfErr, Ok, map, slice_index_or};
 ghost use Rattle.heco_execution.specs.Outcomes.{Refuses};
 ghost use Rattle.heco_execution.specs.States.{nothing};
-ghost use Rattle.heco_execution.specs.Whole.{length_of, opened, as_secrets, with_output, outputs, execute};
+ghost use Rattle.heco_execution.specs.Whole.{opened, as_secrets, with_output, outputs, execute};
 ghost use Rattle.heco_execution.specs.declared.value.Value.TheVariants.{Secret};
 
 use crate::names::Names;
@@ -9,17 +9,8 @@ use crate::operators::as_secret;
 use crate::statement::{run_all, zeros};
 use crate::{EvalErr, Progress, Secrets, Value};
 use heco_nums::{List, Memory};
-use heco_syntax::{Num, Param, Source};
+use heco_syntax::{Param, Source};
 use std::alloc::Global;
-
-fn length_of(len: &Option<Num>) -> u64
-    ensures { result ≡ length_of len.now }
-{
-    match len {
-        None => 1,
-        Some(n) => n.value,
-    }
-}
 
 fn secrets<V: Copy>(alloc: Global, row: &[V]) -> Result<List<Value<V>>, Memory>
     ensures { IfOk result (λ list. list ≡ map (λ v. Secret v) row.now) }
@@ -54,7 +45,7 @@ fn opened<S: Secrets>(
     let mut next = 0;
     for port in ports {
         if port.output {
-            let list = zeros(alloc, m, p, length_of(&port.len))?;
+            let list = zeros(alloc, m, p, port.length())?;
             names.declare(alloc, port.name.text.as_slice(), list)?;
         } else {
             let list = secrets(alloc, row_at(rows, next))?;
