@@ -1,25 +1,26 @@
--- The product by digits, by ready multiples, in words that wrap.
-use Prim.Native.Nat.{ℕ, ◌+◌, ◌*◌, ◌-◌, ◌%◌, ◌<◌, ◌^◌}
+-- The product by digits, by rows that are ready, in words that wrap.
+use Prim.Native.Nat.{ℕ, suc, ◌+◌, ◌*◌, ◌-◌, ◌/◌, ◌%◌, ◌<◌, ◌^◌}
 use native.Mathlib.Omega.{arith}
 use native.Mathlib.Nat.{mul-add-mod_self_left}
-use mathlib.Core.Path.{◌≡◌, sym, ap, ◌∙◌}
+use mathlib.Core.Path.{◌≡◌, refl, sym, ap, ◌∙◌}
 use mathlib.Core.Logic.{inl, inr}
-use mathlib.Core.List.{List, ◌++◌}
+use mathlib.Core.List.{List, [], ◌++◌}
 use lib.IntN.{ℤ, pos, ◌+ℤ◌, ◌*ℤ◌}
 use lib.ListN.{length, get_or, take, drop}
 use Rattle.std.proofs.lemmas.Bool.{cases_eq}
 use Rattle.std.proofs.lemmas.List.{get_or-drop, get_or-take}
 use Rattle.heco_poly.proofs.Products.{row_each}
-use Rattle.heco_ring.specs.Remainders.{rem, reduced, Cong, Same}
-use Rattle.heco_ring.specs.Ring.{at, sum_z, sign, wholes, plus, scale, times}
+use Rattle.heco_ring.specs.Remainders.{rem, Cong, Same}
+use Rattle.heco_ring.specs.Ring.{at, sum_z, sign, wholes, plus, scale, times_at, times}
 use Rattle.heco_ring.specs.Rows.{shift_at, rows_at}
-use Rattle.heco_ring.proofs.Integers.{lines, z_mul_assoc, z_one_mul, z_zero_mul}
-use Rattle.heco_ring.proofs.Linear.{at-scale, at-plus, at-times}
-use Rattle.heco_ring.proofs.Reduced.{same_wholes}
-use Rattle.heco_ring.proofs.Remainders.{cong_add, cong_mul, cong_refl, cong_self, cong_trans, cong_eq, cong_sum}
-use Rattle.heco_ring.proofs.Rows.{rows_none, rows_more, rows_all}
-use Rattle.heco_ring.proofs.Sums.{sum_mul}
+use Rattle.heco_ring.proofs.Integers.{lines, z_one_mul}
+use Rattle.heco_ring.proofs.Linear.{pair_plus, pair_scale, at-scale, at-plus, at-times}
+use Rattle.heco_ring.proofs.Pairing.{pair}
+use Rattle.heco_ring.proofs.Remainders.{cong_add, cong_mul, cong_refl, cong_self, cong_trans, cong_eq, cong_sum, rem_nat}
+use Rattle.heco_ring.proofs.Rows.{rows_all}
+use Rattle.heco_ring.proofs.Sums.{sum_add}
 use Rattle.heco_ring.proofs.Wrapping.{at-wholes, cong_lower}
+use Rattle.heco_bfv.specs.Sums.{AreSums, picked_at}
 
 abbrev q : ℕ
 q = 2 ^ 58
@@ -52,59 +53,88 @@ row_is out b low high i n lo lb room ll fits hh hl k h =
     k h
     ∙ ap (λ (z : ℤ). rem (2 ^ 64) (pos (get_or out k 0) +ℤ z)) (z_one_mul (shift_at n (wholes b) i k))
 
--- ---- a picked row
-shift_scaled : (n i k : ℕ) (c : ℤ) (T K : List ℤ) → Same q n T (scale n c K) → Cong q (shift_at n T i k) (c *ℤ shift_at n K i k)
-unfolding shift_at
-shift_scaled n i k c T K s =
-    cong_trans q (sum_z n (λ j. at T j *ℤ sign n (i + j) k)) (sum_z n (λ j. c *ℤ (at K j *ℤ sign n (i + j) k))) (c *ℤ sum_z n (λ j. at K j *ℤ sign n (i + j) k))
-    (cong_sum q n (λ j. at T j *ℤ sign n (i + j) k) (λ j. c *ℤ (at K j *ℤ sign n (i + j) k)) (λ j h.
-    cong_trans q (at T j *ℤ sign n (i + j) k) (c *ℤ at K j *ℤ sign n (i + j) k) (c *ℤ (at K j *ℤ sign n (i + j) k))
-    (cong_mul q (at T j) (c *ℤ at K j) (sign n (i + j) k) (sign n (i + j) k) (rw (at-scale n c K j h) at (s.each j h)) (cong_refl q (sign n (i + j) k)))
-    (cong_eq q (c *ℤ at K j *ℤ sign n (i + j) k) (c *ℤ (at K j *ℤ sign n (i + j) k)) (z_mul_assoc c (at K j) (sign n (i + j) k)))))
-    (cong_eq q (sum_z n (λ j. c *ℤ (at K j *ℤ sign n (i + j) k))) (c *ℤ sum_z n (λ j. at K j *ℤ sign n (i + j) k)) (sum_mul n c (λ j. at K j *ℤ sign n (i + j) k)))
+-- ---- ready rows
+mixed_word : (a b x y : ℕ) → pos (a * x + b * y) ≡ pos a *ℤ pos x +ℤ pos b *ℤ pos y
+mixed_word a b x y = refl
 
-pub picked : (n i k d old new : ℕ) (K T : List ℕ) → Same q n (wholes T) (scale n (pos d) (wholes K)) → new ≡ rem (2 ^ 64) (pos old +ℤ shift_at n (wholes T) i k) → Cong q (pos new) (pos old +ℤ pos d *ℤ shift_at n (wholes K) i k)
-picked n i k d old new K T s e =
-    let X : ℤ = pos old +ℤ shift_at n (wholes T) i k in
-    rw e (cong_trans q (pos (rem (2 ^ 64) X)) X (pos old +ℤ pos d *ℤ shift_at n (wholes K) i k)
-    (cong_lower q 64 (pos (rem (2 ^ 64) X)) X (cong_self (2 ^ 64) X (omega arith)))
-    (cong_add q (pos old) (pos old) (shift_at n (wholes T) i k) (pos d *ℤ shift_at n (wholes K) i k) (cong_refl q (pos old)) (shift_scaled n i k (pos d) (wholes T) (wholes K) s)))
+pub mixed : (n a b : ℕ) (once other new : List ℕ) → ((k : ℕ) → k < n → get_or new k 0 ≡ (a * get_or once k 0 + b * get_or other k 0) % 2 ^ 64) →
+    Same q n (wholes new) (plus n (scale n (pos a) (wholes once)) (scale n (pos b) (wholes other)))
+mixed n a b once other new h = record {
+  each = λ k l.
+      let x : ℕ = get_or once k 0 in
+      let y : ℕ = get_or other k 0 in
+      rw (at-wholes new k, at-plus n (scale n (pos a) (wholes once)) (scale n (pos b) (wholes other)) k l, at-scale n (pos a) (wholes once) k l, at-scale n (pos b) (wholes other) k l, at-wholes once k, at-wholes other k, h k l, ← (rem_nat (2 ^ 64) (a * x + b * y)), ← (mixed_word a b x y))
+      (cong_lower q 64 (pos (rem (2 ^ 64) (pos (a * x + b * y)))) (pos (a * x + b * y)) (cong_self (2 ^ 64) (pos (a * x + b * y)) (omega arith)));
+}
 
-pub picked_none : (old : ℕ) (S : ℤ) → Cong q (pos old) (pos old +ℤ pos 0 *ℤ S)
-picked_none old S = cong_eq q (pos old) (pos old +ℤ pos 0 *ℤ S) (rw (z_zero_mul S) (omega (arith, lines)))
-
-pub ready_once : (n : ℕ) (K : List ℕ) → Same q n (wholes K) (scale n (pos 1) (wholes K))
-ready_once n K = record { each = λ k h. rw (at-scale n (pos 1) (wholes K) k h, z_one_mul (at (wholes K) k)) (cong_refl q (at (wholes K) k)) }
-
-pub ready : (n : ℕ) (c : ℤ) (K T : List ℕ) → T ≡ reduced q n (scale n c (wholes K)) → Same q n (wholes T) (scale n c (wholes K))
-ready n c K T e = rw e (same_wholes q n (scale n c (wholes K)) (omega arith))
-
--- ---- the rows
--- the places of new agree with those of old and what the first i rows come to
-pub record Gained (n i : ℕ) (A B : List ℤ) (old new : List ℕ) : Type 0 where
-  pub each : (k : ℕ) → k < n → Cong (2 ^ 58) (pos (get_or new k 0)) (pos (get_or old k 0) +ℤ rows_at n A B i k)
-
-pub gained_none : (n : ℕ) (A B : List ℤ) (old : List ℕ) → Gained n 0 A B old old
-gained_none n A B old = record { each = λ k h. cong_eq q (pos (get_or old k 0)) (pos (get_or old k 0) +ℤ rows_at n A B 0 k) (rw (rows_none n k A B) (omega (arith, lines))) }
+-- ---- picked rows
+pub picked_none : (n k : ℕ) (T : List (List ℕ)) (d e old : List ℕ) → Cong (2 ^ 64) (pos (get_or old k 0)) (pos (get_or old k 0) +ℤ picked_at n T d e 0 k)
+unfolding picked_at sum_z
+picked_none n k T d e old = cong_eq (2 ^ 64) (pos (get_or old k 0)) (pos (get_or old k 0) +ℤ pos 0) (omega (arith, lines))
 
 three_sum : (a b c : ℤ) → a +ℤ b +ℤ c ≡ a +ℤ (b +ℤ c)
 three_sum a b c = omega (arith, lines)
 
-pub gained_more : (n i d : ℕ) (A B : List ℤ) (old new more : List ℕ) → pos d ≡ at A i → Gained n i A B old new →
-    ((k : ℕ) → k < n → Cong (2 ^ 58) (pos (get_or more k 0)) (pos (get_or new k 0) +ℤ pos d *ℤ shift_at n B i k)) → Gained n (i + 1) A B old more
-gained_more n i d A B old new more e g h = record {
-  each = λ k l.
-      let S : ℤ = shift_at n B i k in
-      let O : ℤ = pos (get_or old k 0) in
-      let R : ℤ = rows_at n A B i k in
-      let N : ℤ = pos (get_or new k 0) in
-      rw (rows_more n i k A B, ← e) (cong_trans q (pos (get_or more k 0)) (N +ℤ pos d *ℤ S) (O +ℤ (R +ℤ pos d *ℤ S)) (h k l)
-      (cong_trans q (N +ℤ pos d *ℤ S) (O +ℤ R +ℤ pos d *ℤ S) (O +ℤ (R +ℤ pos d *ℤ S))
-      (cong_add q N (O +ℤ R) (pos d *ℤ S) (pos d *ℤ S) (g.each k l) (cong_refl q (pos d *ℤ S)))
-      (cong_eq q (O +ℤ R +ℤ pos d *ℤ S) (O +ℤ (R +ℤ pos d *ℤ S)) (three_sum O R (pos d *ℤ S)))));
-}
+pub picked_more : (n i k o x y : ℕ) (T : List (List ℕ)) (d e R : List ℕ) → Cong (2 ^ 64) (pos x) (pos o +ℤ picked_at n T d e i k) →
+    get_or T (get_or d i 0 + 4 * get_or e i 0) [] ≡ R → y ≡ rem (2 ^ 64) (pos x +ℤ shift_at n (wholes R) i k) → Cong (2 ^ 64) (pos y) (pos o +ℤ picked_at n T d e (i + 1) k)
+unfolding picked_at sum_z
+picked_more n i k o x y T d e R c r f =
+    let s : i + 1 ≡ suc i = omega arith in
+    let P : ℤ = picked_at n T d e i k in
+    let S : ℤ = shift_at n (wholes R) i k in
+    rw (s, r, f) (cong_trans (2 ^ 64) (pos (rem (2 ^ 64) (pos x +ℤ S))) (pos x +ℤ S) (pos o +ℤ (P +ℤ S))
+    (cong_self (2 ^ 64) (pos x +ℤ S) (omega arith))
+    (cong_trans (2 ^ 64) (pos x +ℤ S) (pos o +ℤ P +ℤ S) (pos o +ℤ (P +ℤ S))
+    (cong_add (2 ^ 64) (pos x) (pos o +ℤ P) S S c (cong_refl (2 ^ 64) S))
+    (cong_eq (2 ^ 64) (pos o +ℤ P +ℤ S) (pos o +ℤ (P +ℤ S)) (three_sum (pos o) P S))))
 
-pub gained_all : (n : ℕ) (A B : List ℤ) (old new : List ℕ) → Gained n n A B old new → Same (2 ^ 58) n (wholes new) (plus n (wholes old) (times n A B))
-gained_all n A B old new g = record {
-  each = λ k h. rw (at-wholes new k, at-plus n (wholes old) (times n A B) k h, at-wholes old k, at-times n A B k h, ← (rows_all n k A B)) (g.each k h);
+-- a row that is a sum, moved
+shift_sum : (n i k : ℕ) (a b : ℤ) (R K L : List ℤ) → Same q n R (plus n (scale n a K) (scale n b L)) → Cong q (shift_at n R i k) (a *ℤ shift_at n K i k +ℤ b *ℤ shift_at n L i k)
+unfolding shift_at pair
+shift_sum n i k a b R K L s =
+    let f : ℕ → ℤ = λ j. sign n (i + j) k in
+    let P : List ℤ = plus n (scale n a K) (scale n b L) in
+    cong_trans q (sum_z n (λ j. at R j *ℤ f j)) (sum_z n (λ j. at P j *ℤ f j)) (a *ℤ pair n K f +ℤ b *ℤ pair n L f)
+    (cong_sum q n (λ j. at R j *ℤ f j) (λ j. at P j *ℤ f j) (λ j h. cong_mul q (at R j) (at P j) (f j) (f j) (s.each j h) (cong_refl q (f j))))
+    (cong_eq q (pair n P f) (a *ℤ pair n K f +ℤ b *ℤ pair n L f) (pair_plus n (scale n a K) (scale n b L) f ∙ rw (pair_scale n a K f, pair_scale n b L f) refl))
+
+low_digit : (d e : ℕ) → d < 4 → (d + 4 * e) % 4 ≡ d
+low_digit d e h = omega arith
+
+high_digit : (d e : ℕ) → d < 4 → (d + 4 * e) / 4 ≡ e
+high_digit d e h = omega arith
+
+picked_both : (n k : ℕ) (K L : List ℤ) (T : List (List ℕ)) (d e : List ℕ) → AreSums n K L T → ((j : ℕ) → j < n → get_or d j 0 < 4) → ((j : ℕ) → j < n → get_or e j 0 < 4) →
+    Cong q (picked_at n T d e n k) (times_at n (wholes d) K k +ℤ times_at n (wholes e) L k)
+unfolding picked_at rows_at
+picked_both n k K L T d e t hd he =
+    let A : List ℤ = wholes d in
+    let B : List ℤ = wholes e in
+    cong_trans q (sum_z n (λ j. shift_at n (wholes (get_or T (get_or d j 0 + 4 * get_or e j 0) [])) j k)) (sum_z n (λ j. at A j *ℤ shift_at n K j k +ℤ at B j *ℤ shift_at n L j k)) (times_at n A K k +ℤ times_at n B L k)
+    (cong_sum q n (λ j. shift_at n (wholes (get_or T (get_or d j 0 + 4 * get_or e j 0) [])) j k) (λ j. at A j *ℤ shift_at n K j k +ℤ at B j *ℤ shift_at n L j k) (λ j h.
+    let x : ℕ = get_or d j 0 in
+    let y : ℕ = get_or e j 0 in
+    let s = rw (low_digit x y (hd j h), high_digit x y (hd j h)) at (t.each (x + 4 * y) (small x y (hd j h) (he j h))) in
+    rw (at-wholes d j, at-wholes e j) (shift_sum n j k (pos x) (pos y) (wholes (get_or T (x + 4 * y) [])) K L s)))
+    (cong_eq q (sum_z n (λ j. at A j *ℤ shift_at n K j k +ℤ at B j *ℤ shift_at n L j k)) (times_at n A K k +ℤ times_at n B L k)
+    (sum_add n (λ j. at A j *ℤ shift_at n K j k) (λ j. at B j *ℤ shift_at n L j k) ∙ rw (← (rows_all n k A K), ← (rows_all n k B L)) refl))
+  where
+    small : (x y : ℕ) → x < 4 → y < 4 → x + 4 * y < 16
+    small x y h g = omega arith
+
+-- what was picked is both products
+pub gained : (n : ℕ) (K L : List ℤ) (T : List (List ℕ)) (d e old new : List ℕ) → AreSums n K L T → ((j : ℕ) → j < n → get_or d j 0 < 4) → ((j : ℕ) → j < n → get_or e j 0 < 4) →
+    ((k : ℕ) → k < n → Cong (2 ^ 64) (pos (get_or new k 0)) (pos (get_or old k 0) +ℤ picked_at n T d e n k)) →
+    Same q n (wholes new) (plus n (wholes old) (plus n (times n (wholes d) K) (times n (wholes e) L)))
+gained n K L T d e old new t hd he h = record {
+  each = λ k l.
+      let A : List ℤ = times n (wholes d) K in
+      let B : List ℤ = times n (wholes e) L in
+      let o : ℤ = pos (get_or old k 0) in
+      let P : ℤ = picked_at n T d e n k in
+      let Q : ℤ = times_at n (wholes d) K k +ℤ times_at n (wholes e) L k in
+      rw (at-wholes new k, at-plus n (wholes old) (plus n A B) k l, at-plus n A B k l, at-wholes old k, at-times n (wholes d) K k l, at-times n (wholes e) L k l)
+      (cong_trans q (pos (get_or new k 0)) (o +ℤ P) (o +ℤ Q)
+      (cong_lower q 64 (pos (get_or new k 0)) (o +ℤ P) (h k l))
+      (cong_add q o o P Q (cong_refl q o) (picked_both n k K L T d e t hd he)));
 }

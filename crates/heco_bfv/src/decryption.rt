@@ -19,7 +19,7 @@ use std::alloc::Global;
 /// The room that decryption needs.
 #[derive(Debug, Drop)]
 pub struct Scratch {
-    pub preset: Preset,
+    preset: Preset,
     phase: Poly,
     once: Poly,
     twice: Poly,

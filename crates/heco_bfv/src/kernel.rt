@@ -1,8 +1,11 @@
-ghost use Rattle.std.specs.Prelude.{◌≡◌, ℕ, ◌+◌, ◌-◌, ◌%◌, ◌<◌, ◌^◌, EachIndex, length, slice_index};
-ghost use lib.IntN.{pos, ◌+ℤ◌, ◌*ℤ◌};
-ghost use Rattle.heco_ring.specs.Remainders.{rem, reduced, Cong, Same};
-ghost use Rattle.heco_ring.specs.Ring.{wholes, plus, scale, times};
+ghost use Rattle.std.specs.Prelude.{◌≡◌, ◌+◌, ◌*◌, ◌-◌, ◌%◌, ◌<◌, ◌^◌, EachIndex, length, slice_index};
+ghost use lib.IntN.{pos, ◌+ℤ◌};
+ghost use Rattle.heco_ring.specs.Remainders.{rem, Cong};
+ghost use Rattle.heco_ring.specs.Ring.{wholes};
 ghost use Rattle.heco_ring.specs.Rows.{shift_at};
+ghost use Rattle.heco_bfv.specs.Sums.{HasRoom, picked_at};
+
+use crate::words::Words;
 
 /// Each word of out gains that of b.
 fn add_words(out: &mut [u64], b: &[u64])
@@ -36,33 +39,30 @@ fn add_row(out: &mut [u64], b: &[u64], i: usize)
     sub_words(low, &b[n - i..]);
 }
 
-/// out gains d x^i once modulo 2^58, by the ready multiple that d picks: no product is taken.
-fn add_picked(out: &mut [u64], d: u64, i: usize, once: &[u64], twice: &[u64], thrice: &[u64])
-    requires digit { d < 4 }
-    requires inside { i < length out.old }
+/// out becomes a once + b other, in words that wrap.
+pub fn mix(out: &mut [u64], once: &[u64], a: u64, other: &[u64], b: u64)
     requires once { length once.now ≡ length out.old }
-    requires twice { let n = length out.old in twice.now ≡ reduced (2 ^ 58) n (scale n (pos 2) (wholes once.now)) }
-    requires thrice { let n = length out.old in thrice.now ≡ reduced (2 ^ 58) n (scale n (pos 3) (wholes once.now)) }
-    ensures { EachIndex out.new (λ k. Cong (2 ^ 58) (pos (slice_index out.new k)) (pos (slice_index out.old k) +ℤ pos d *ℤ shift_at (length out.old) (wholes once.now) i k)) }
+    requires other { length other.now ≡ length out.old }
+    ensures { EachIndex out.new (λ k. slice_index out.new k ≡ (a * slice_index once.now k + b * slice_index other.now k) % 2 ^ 64) }
 {
-    match d {
-        0 => {}
-        1 => add_row(out, once, i),
-        2 => add_row(out, twice, i),
-        _ => add_row(out, thrice, i),
+    for i in 0..out.len() {
+        out[i] = a
+            .wrapping_mul(once[i])
+            .wrapping_add(b.wrapping_mul(other[i]));
     }
 }
 
-/// out gains the product of d and once modulo 2^58, where the places of d are below 4.
-pub fn add_product(out: &mut [u64], d: &[u64], once: &[u64], twice: &[u64], thrice: &[u64])
-    requires digits { EachIndex d.now (λ k. slice_index d.now k < 4) }
+/// out gains, for each place, x^place times the row that the digits of the place pick: no product is taken.
+pub fn add_picked(out: &mut [u64], d: &[u64], e: &[u64], rows: &[Words])
     requires d { length d.now ≡ length out.old }
-    requires once { length once.now ≡ length out.old }
-    requires twice { let n = length out.old in twice.now ≡ reduced (2 ^ 58) n (scale n (pos 2) (wholes once.now)) }
-    requires thrice { let n = length out.old in thrice.now ≡ reduced (2 ^ 58) n (scale n (pos 3) (wholes once.now)) }
-    ensures { let n = length out.old in Same (2 ^ 58) n (wholes out.new) (plus n (wholes out.old) (times n (wholes d.now) (wholes once.now))) }
+    requires e { length e.now ≡ length out.old }
+    requires d_digits { EachIndex d.now (λ k. slice_index d.now k < 4) }
+    requires e_digits { EachIndex e.now (λ k. slice_index e.now k < 4) }
+    requires rows { HasRoom (length out.old) rows.now }
+    ensures { let n = length out.old in EachIndex out.new (λ k. Cong (2 ^ 64) (pos (slice_index out.new k)) (pos (slice_index out.old k) +ℤ picked_at n rows.now d.now e.now n k)) }
 {
     for i in 0..d.len() {
-        add_picked(out, d[i], i, once, twice, thrice);
+        let row = &rows[(d[i] + 4 * e[i]) as usize];
+        add_row(out, row.as_slice(), i);
     }
 }

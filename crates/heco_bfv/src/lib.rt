@@ -17,6 +17,7 @@ mod round_trip;
 mod scale;
 mod shift;
 mod sub;
+mod sums;
 mod switching;
 mod turn;
 mod words;

@@ -1,9 +1,11 @@
-ghost use Rattle.std.specs.Prelude.{◌≡◌, ℕ, ◌<◌, ◌^◌, IfOk, EachIndex, length, slice_index};
-ghost use lib.IntN.{pos};
+ghost use Rattle.std.specs.Prelude.{◌≡◌, ◌<◌, ◌^◌, List as Seq, IfOk, EachIndex, length, slice_index};
+ghost use lib.IntN.{ℤ, pos};
 ghost use Rattle.heco_ring.specs.Remainders.{reduced, Same};
 ghost use Rattle.heco_ring.specs.Ring.{wholes, plus, scale, times};
+ghost use Rattle.heco_bfv.specs.Sums.{HasRoom, AreSums};
 
 use crate::kernel;
+use crate::sums::Sums;
 use heco_nums::{Memory, Preset};
 use heco_poly::Poly;
 use std::alloc::Global;
@@ -43,22 +45,44 @@ impl Words {
         self.places.as_mut_slice().copy_from_slice(a.as_slice());
     }
 
-    /// Gains the product of d and once modulo 2^58, where the places of d are below 4.
-    pub fn add_product(&mut self, d: &Poly, once: &Poly, twice: &Poly, thrice: &Poly)
-        requires digits { EachIndex d.now (λ k. slice_index d.now k < 4) }
-        requires d { length d.now ≡ length self.old }
+    pub fn as_slice(&self) -> &[u64]
+        ensures { result.now ≡ self.now }
+    {
+        self.places.as_slice()
+    }
+
+    /// Becomes a once + b other modulo 2^58.
+    pub fn mix(&mut self, once: &Poly, a: u64, other: &Poly, b: u64)
         requires once { length once.now ≡ length self.old }
-        requires twice { let n = length self.old in twice.now ≡ reduced (2 ^ 58) n (scale n (pos 2) (wholes once.now)) }
-        requires thrice { let n = length self.old in thrice.now ≡ reduced (2 ^ 58) n (scale n (pos 3) (wholes once.now)) }
-        ensures value { let n = length self.old in Same (2 ^ 58) n (wholes self.new) (plus n (wholes self.old) (times n (wholes d.now) (wholes once.now))) }
+        requires other { length other.now ≡ length self.old }
+        ensures value { let n = length self.old in Same (2 ^ 58) n (wholes self.new) (plus n (scale n (pos a) (wholes once.now)) (scale n (pos b) (wholes other.now))) }
         ensures long { length self.new ≡ length self.old }
     {
-        kernel::add_product(
+        kernel::mix(
+            self.places.as_mut_slice(),
+            once.as_slice(),
+            a,
+            other.as_slice(),
+            b,
+        );
+    }
+
+    /// Gains the product of d and K and that of e and L modulo 2^58, by the sums of K and L. The places of d and e are
+    /// below 4.
+    pub fn add_products(&mut self, d: &Poly, e: &Poly, sums: &Sums)
+        requires d { length d.now ≡ length self.old }
+        requires e { length e.now ≡ length self.old }
+        requires d_digits { EachIndex d.now (λ k. slice_index d.now k < 4) }
+        requires e_digits { EachIndex e.now (λ k. slice_index e.now k < 4) }
+        requires sums { HasRoom (length self.old) sums.now }
+        ensures value { let n = length self.old in (K L : Seq ℤ) → AreSums n K L sums.now → Same (2 ^ 58) n (wholes self.new) (plus n (wholes self.old) (plus n (times n (wholes d.now) K) (times n (wholes e.now) L))) }
+        ensures long { length self.new ≡ length self.old }
+    {
+        kernel::add_picked(
             self.places.as_mut_slice(),
             d.as_slice(),
-            once.as_slice(),
-            twice.as_slice(),
-            thrice.as_slice(),
+            e.as_slice(),
+            sums.as_slice(),
         );
     }
 

@@ -1,32 +1,32 @@
--- A slice that gains a multiple of another one, and a row of the product from two such slices.
-use Prim.Native.Nat.{ℕ, ◌+◌, ◌*◌, ◌-◌, ◌^◌, ◌<◌, ◌≤◌}
+-- A slice whose numbers are changed one by one, and a row of the product from two slices that gain multiples.
+use Prim.Native.Nat.{ℕ, ◌+◌, ◌-◌, ◌<◌, ◌≤◌}
 use native.Mathlib.Omega.{arith}
 use mathlib.Core.Path.{◌≡◌, refl, sym, ap, ◌∙◌}
 use mathlib.Core.Logic.{inl, inr}
 use mathlib.Core.List.{List, ◌++◌}
-use lib.IntN.{ℤ, pos, ◌+ℤ◌, ◌*ℤ◌, neg_ℤ, nat_abs}
+use lib.IntN.{ℤ, pos, ◌+ℤ◌, ◌*ℤ◌, neg_ℤ}
 use lib.ListN.{length, get_or, set, take, drop}
 use Rattle.std.specs.Prelude.{◌≢◌}
 use Rattle.std.proofs.lemmas.Bool.{cases_lt, cases_eq}
 use Rattle.std.proofs.lemmas.List.{get_or-drop, get_or-take, get_or_append_left, get_or-append_right, get_or-set_same, get_or-set_other, length-take, length-drop}
 use Rattle.heco_ring.specs.Ring.{at}
 use Rattle.heco_ring.specs.Rows.{shift_at}
-use Rattle.heco_ring.proofs.Integers.{lines, z_neg_mul, z_mul_neg}
+use Rattle.heco_ring.proofs.Integers.{z_neg_mul, z_mul_neg}
 use Rattle.heco_ring.proofs.Rows.{shift_high, shift_low}
 use Rattle.heco_wide.specs.Wide.{int_at, FitsAll}
 
--- the first i numbers have gained c times those of b, and the others stand
-pub record Grown (i : ℕ) (old new b : List ℤ) (c : ℤ) : Type 0 where
-  pub done : (k : ℕ) → k < i → int_at new k ≡ int_at old k +ℤ c *ℤ int_at b k
+-- the first i numbers are changed by f, the others stand
+pub record Changed (i : ℕ) (old new : List ℤ) (f : ℕ → ℤ → ℤ) : Type 0 where
+  pub done : (k : ℕ) → k < i → int_at new k ≡ f k (int_at old k)
   pub rest : (k : ℕ) → i ≤ k → int_at new k ≡ int_at old k
 
-pub grown_none : (old b : List ℤ) (c : ℤ) → Grown 0 old old b c
-grown_none old b c = record { done = λ k h. absurd (omega arith); rest = λ k h. refl }
+pub changed_none : (old : List ℤ) (f : ℕ → ℤ → ℤ) → Changed 0 old old f
+changed_none old f = record { done = λ k h. absurd (omega arith); rest = λ k h. refl }
 
-pub grown_more : (i : ℕ) (old new b : List ℤ) (c v : ℤ) → i < length new → Grown i old new b c → v ≡ int_at new i +ℤ c *ℤ int_at b i → Grown (i + 1) old (set new i v) b c
-grown_more i old new b c v h g e = record {
+pub changed_more : (i : ℕ) (old new : List ℤ) (f : ℕ → ℤ → ℤ) (v : ℤ) → i < length new → Changed i old new f → v ≡ f i (int_at new i) → Changed (i + 1) old (set new i v) f
+changed_more i old new f v h g e = record {
   done = λ k l. elim (cases_eq k i) [
-    | inl same ↦ rw (same, get_or-set_same, e, g.rest i (omega arith)) refl
+    | inl same ↦ rw (same, get_or-set_same) (e ∙ ap (f i) (g.rest i (omega arith)))
     | inr other ↦ (let ne : k ≢ i = other in rw get_or-set_other (g.done k (omega arith)))
   ];
   rest = λ k l. let ne : k ≢ i = omega arith in rw get_or-set_other (g.rest k (omega arith));

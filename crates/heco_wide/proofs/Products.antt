@@ -1,22 +1,19 @@
 -- The sizes of rows and products over the integers, and rounded lists.
-use Prim.Native.Nat.{ℕ, zero, suc, ◌+◌, ◌*◌, ◌^◌, ◌<◌, ◌≤◌}
+use Prim.Native.Nat.{ℕ, suc, ◌+◌, ◌*◌, ◌^◌, ◌<◌, ◌≤◌}
 use native.Mathlib.Omega.{arith}
-use native.Mathlib.Nat.{mul-le-mul_right, mul-le-mul_left}
 use mathlib.Core.Path.{◌≡◌, refl, sym, ap, ◌∙◌}
 use mathlib.Core.List.{List}
-use lib.IntN.{ℤ, pos, ◌+ℤ◌, ◌*ℤ◌, nat_abs}
+use lib.IntN.{ℤ, pos, ◌+ℤ◌, ◌*ℤ◌, neg_ℤ, nat_abs}
 use lib.ListN.{length, get_or}
-use Rattle.std.proofs.lemmas.Bool.{cases_eq}
 use Rattle.std.proofs.lemmas.Nat.{mul-le}
 use Rattle.std.proofs.lemmas.Int.{unsigned_abs-mul}
 use Rattle.heco_noise_laws.specs.Noise.{rounded, round_part}
-use Rattle.heco_ring.proofs.Integers.{lines, z_mul_one}
-use Rattle.heco_ring.proofs.Linear.{at-plus, at-times}
+use Rattle.heco_ring.proofs.Integers.{lines}
+use Rattle.heco_ring.proofs.Linear.{at-plus, at-times, plus_times, times_plus}
 use Rattle.heco_ring.proofs.Pairing.{pair, table_ext, at-table}
 use Rattle.heco_ring.proofs.Reduced.{filled}
 use Rattle.heco_ring.proofs.Rows.{rows_all}
 use Rattle.heco_ring.proofs.Sizes.{shifted, sum_abs, sum_n_le, abs_add}
-use Rattle.heco_ring.proofs.Sums.{sum_ext}
 use Rattle.heco_ring.specs.Remainders.{rem, reduced}
 use Rattle.heco_ring.specs.Ring.{at, sum_z, sign, times_at, table, plus, times}
 use Rattle.heco_ring.specs.Rows.{shift_at, rows_at}
@@ -40,8 +37,8 @@ unfolding rows_at
 rows_size n i k A B a b la lb ha hb il kl = omega (arith, sum_abs i (λ j. at a j *ℤ shift_at n b j k) (λ j. A * B) (λ j jl. row_size n j k A B a b (at_small n A a la ha j (omega arith)) (at_small n B b lb hb) (omega arith) kl), sum_n_le i (A * B) (λ j. A * B) (λ j jl. omega arith))
 
 -- what has come together still has room
-pub room_left : (n i k : ℕ) (a b : List ℤ) (w v : ℤ) → length a ≡ n → length b ≡ n → FitsAll (2 ^ 57) a → FitsAll (2 ^ 57) b → i ≤ n → n ≤ 1024 → k < n → nat_abs w ≤ 2 ^ 124 → v ≡ w +ℤ rows_at n a b i k → nat_abs v ≤ 2 ^ 126
-room_left n i k a b w v la lb ha hb il ns kl hw e = rw e (omega (arith, abs_add w (rows_at n a b i k), rows_size n i k (2 ^ 57) (2 ^ 57) a b la lb ha hb il kl))
+pub room_left : (n i k : ℕ) (a b : List ℤ) (w v : ℤ) → length a ≡ n → length b ≡ n → FitsAll (2 ^ 58) a → FitsAll (2 ^ 58) b → i ≤ n → n ≤ 1024 → k < n → nat_abs w ≤ 2 ^ 125 → v ≡ w +ℤ rows_at n a b i k → nat_abs v ≤ 3 * 2 ^ 125
+room_left n i k a b w v la lb ha hb il ns kl hw e = rw e (omega (arith, abs_add w (rows_at n a b i k), rows_size n i k (2 ^ 58) (2 ^ 58) a b la lb ha hb il kl))
 
 pub rows_next : (n i k : ℕ) (a b : List ℤ) (w v x : ℤ) → v ≡ w +ℤ rows_at n a b i k → x ≡ v +ℤ at a i *ℤ shift_at n b i k → x ≡ w +ℤ rows_at n a b (i + 1) k
 unfolding rows_at sum_z
@@ -72,5 +69,35 @@ pub centred_filled : (n : ℕ) (c : List ℕ) (out : List ℤ) → length out �
 unfolding centred table
 centred_filled n c out l h = fill_by_all (λ k. centre_q (get_or c k 0)) out n (pos 0) l (λ k kl. h k (omega arith))
 
-pub sum_at : (n k : ℕ) (a b c d : List ℤ) (x y v : ℤ) → k < n → x ≡ pos 0 → y ≡ x +ℤ times_at n a b k → v ≡ y +ℤ times_at n c d k → v ≡ at (plus n (times n a b) (times n c d)) k
-sum_at n k a b c d x y v kn e f g = rw (at-plus n (times n a b) (times n c d) k kn, at-times n a b k kn, at-times n c d k kn) (omega (arith, lines, e, f, g))
+-- a smaller bound is a bound
+pub fits_more : (B C : ℕ) (a : List ℤ) → B ≤ C → FitsAll B a → FitsAll C a
+fits_more B C a h f = λ k l. omega (arith, f k l)
+
+pub plus_filled : (n : ℕ) (a b out : List ℤ) → length out ≡ n → ((k : ℕ) → k < n → get_or out k (pos 0) ≡ get_or a k (pos 0) +ℤ get_or b k (pos 0)) → out ≡ plus n a b
+unfolding plus table at
+plus_filled n a b out l h = fill_by_all (λ k. get_or a k (pos 0) +ℤ get_or b k (pos 0)) out n (pos 0) l (λ k kl. h k (omega arith))
+
+-- ---- one product for two
+both_at : (n k : ℕ) (a b c d : List ℤ) → k < n → times_at n (plus n a c) (plus n b d) k ≡ times_at n a b k +ℤ times_at n a d k +ℤ (times_at n c b k +ℤ times_at n c d k)
+both_at n k a b c d h = rw (
+  ← (at-times n (plus n a c) (plus n b d) k h),
+  ← (at-times n a b k h),
+  ← (at-times n a d k h),
+  ← (at-times n c b k h),
+  ← (at-times n c d k h),
+  plus_times n a c (plus n b d),
+  times_plus n a b d,
+  times_plus n c b d,
+  at-plus n (plus n (times n a b) (times n a d)) (plus n (times n c b) (times n c d)) k h,
+  at-plus n (times n a b) (times n a d) k h,
+  at-plus n (times n c b) (times n c d) k h,
+) refl
+
+pub middle_at : (n k : ℕ) (a b c d A B : List ℤ) (x y w v : ℤ) → k < n → x ≡ times_at n a b k → y ≡ times_at n c d k → w ≡ neg_ℤ (x +ℤ y) → A ≡ plus n a c → B ≡ plus n b d → v ≡ w +ℤ times_at n A B k →
+    v ≡ times_at n a d k +ℤ times_at n c b k
+middle_at n k a b c d A B x y w v h ex ey ew ea eb ev =
+    let t : times_at n A B k ≡ times_at n a b k +ℤ times_at n a d k +ℤ (times_at n c b k +ℤ times_at n c d k) = rw (ea, eb) (both_at n k a b c d h) in
+    omega (arith, lines, ex, ey, ew, ev, t)
+
+pub at-middle : (n k : ℕ) (a b c d : List ℤ) (v : ℤ) → k < n → v ≡ times_at n a d k +ℤ times_at n c b k → v ≡ at (plus n (times n a d) (times n c b)) k
+at-middle n k a b c d v h e = rw (at-plus n (times n a d) (times n c b) k h, at-times n a d k h, at-times n c b k h) e

@@ -6,6 +6,7 @@ mod part;
 mod product;
 mod round;
 mod row;
+mod sums;
 mod tensor;
 
 pub use tensor::Tensor;

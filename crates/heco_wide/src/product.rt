@@ -19,9 +19,9 @@ pub fn add_product(a: &[i64], b: &[i64], out: &mut [i128])
     requires b_len { length b.now ≡ length a.now }
     requires out_len { length out.old ≡ length a.now }
     requires short { length a.now ≤ 1024 }
-    requires a_small { FitsAll (2 ^ 57) a.now }
-    requires b_small { FitsAll (2 ^ 57) b.now }
-    requires room { FitsAll (2 ^ 124) out.old }
+    requires a_small { FitsAll (2 ^ 58) a.now }
+    requires b_small { FitsAll (2 ^ 58) b.now }
+    requires room { FitsAll (2 ^ 125) out.old }
     ensures { EachIndex out.new (λ k. int_at out.new k ≡ int_at out.old k +ℤ times_at (length a.now) a.now b.now k) }
 {
     for i in 0..a.len() {

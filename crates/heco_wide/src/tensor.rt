@@ -15,12 +15,14 @@ pub struct Tensor {
     c1: Vec<i64>,
     d0: Vec<i64>,
     d1: Vec<i64>,
-    wide: Vec<i128>,
+    first: Vec<i128>,
+    third: Vec<i128>,
     ghost c0_long: { length c0.items ≡ preset.n },
     ghost c1_long: { length c1.items ≡ preset.n },
     ghost d0_long: { length d0.items ≡ preset.n },
     ghost d1_long: { length d1.items ≡ preset.n },
-    ghost wide_long: { length wide.items ≡ preset.n },
+    ghost first_long: { length first.items ≡ preset.n },
+    ghost third_long: { length third.items ≡ preset.n },
 }
 
 impl Tensor {
@@ -33,14 +35,16 @@ impl Tensor {
         let c1 = vec![in alloc; 0; n]?;
         let d0 = vec![in alloc; 0; n]?;
         let d1 = vec![in alloc; 0; n]?;
-        let wide = vec![in alloc; 0; n]?;
+        let first = vec![in alloc; 0; n]?;
+        let third = vec![in alloc; 0; n]?;
         Ok(Tensor {
             preset: *p,
             c0,
             c1,
             d0,
             d1,
-            wide,
+            first,
+            third,
         })
     }
 
@@ -73,13 +77,14 @@ impl Tensor {
         let c1_whole = self.c1.as_mut_slice();
         let d0_whole = self.d0.as_mut_slice();
         let d1_whole = self.d1.as_mut_slice();
-        let wide = self.wide.as_mut_slice();
+        let first = self.first.as_mut_slice();
+        let third = self.third.as_mut_slice();
         centre::centre_all(c0.as_slice(), c0_whole);
         centre::centre_all(c1.as_slice(), c1_whole);
         centre::centre_all(d0.as_slice(), d0_whole);
         centre::centre_all(d1.as_slice(), d1_whole);
-        part::outer(t, c0_whole, d0_whole, wide, o0);
-        part::cross(t, c0_whole, d1_whole, c1_whole, d0_whole, wide, o1);
-        part::outer(t, c1_whole, d1_whole, wide, o2);
+        part::outer(t, c0_whole, d0_whole, first, o0);
+        part::outer(t, c1_whole, d1_whole, third, o2);
+        part::middle(t, c0_whole, c1_whole, d0_whole, d1_whole, first, third, o1);
     }
 }

@@ -1,4 +1,4 @@
-use Rattle.std.proofs.Common.{◌≡◌, ◌<◌, ℕ, length, arith, ◌∙◌}
+use Rattle.std.proofs.Common.{length, arith, ◌∙◌}
 use Rattle.heco_wide.proofs.Products.{centred_filled}
 use Rattle.heco_wide.proofs.centre.centre_all.Goals as goal
 

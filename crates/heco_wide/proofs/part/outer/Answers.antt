@@ -1,5 +1,5 @@
 use Rattle.std.proofs.Common.{◌≡◌, ◌<◌, ◌≤◌, ◌^◌, ℕ, length, get_or, arith, sym, ◌∙◌}
-use lib.IntN.{ℤ, pos, nat_abs}
+use lib.IntN.{pos, nat_abs}
 use Rattle.heco_ring.proofs.Linear.{at-times}
 use Rattle.heco_ring.specs.Ring.{at, times, times_at}
 use Rattle.heco_wide.proofs.Products.{from_zero, product_size, rounded_ext}

@@ -1,7 +1,7 @@
-use Rattle.std.proofs.Common.{◌≡◌, ◌<◌, ℕ, length, get_or, arith, SFits, to_z-of_z}
+use Rattle.std.proofs.Common.{◌≡◌, length, get_or, arith, SFits, to_z-of_z}
 use mir.Syntax.{w64}
 use Rattle.heco_ring.specs.Ring.{at}
-use Rattle.heco_noise_laws.proofs.Rounding.{small_64}
+use Rattle.heco_wide.proofs.Room.{small_64}
 use lib.IntN.{pos}
 use Rattle.heco_ring.proofs.Rows.{rows_all}
 use Rattle.heco_wide.proofs.Products.{room_left, rows_next, rows_first}

@@ -1,5 +1,5 @@
 use mir.Syntax.{w128}
-use Rattle.std.proofs.Common.{rules, SFits, to_z-of_z, ◌≡◌, ◌<◌, ◌^◌, ℕ, length, get_or, arith, ◌∙◌}
+use Rattle.std.proofs.Common.{rules, SFits, to_z-of_z, ◌<◌, ◌^◌, length, get_or, arith}
 use lib.IntN.{pos}
 use Rattle.heco_noise_laws.specs.Noise.{rounded}
 use Rattle.heco_ring.proofs.Remainders.{rem-lt}

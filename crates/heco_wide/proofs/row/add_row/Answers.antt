@@ -1,10 +1,10 @@
-use Rattle.std.proofs.Common.{◌≡◌, ◌-◌, ◌^◌, length, arith, refl, length-drop, length-take, length-append, ap, SFits, to_z-of_z}
+use Rattle.std.proofs.Common.{◌≡◌, ◌-◌, length, arith, refl, length-drop, length-take, length-append, ap, SFits, to_z-of_z}
 use mir.Syntax.{w64}
 use lib.IntN.{pos, ◌+ℤ◌, neg_ℤ}
 use Rattle.heco_ring.proofs.Integers.{lines}
 use Rattle.heco_ring.proofs.Sizes.{abs_neg}
-use Rattle.heco_noise_laws.proofs.Rounding.{small_64}
-use Rattle.heco_wide.proofs.Grown.{fits_take, fits_drop, row_each}
+use Rattle.heco_wide.proofs.Room.{small_64}
+use Rattle.heco_wide.proofs.Grown.{row_each}
 use Rattle.heco_wide.proofs.row.add_row.Goals as goal
 
 pub returns : goal.returns

@@ -1,7 +1,7 @@
 use Rattle.std.proofs.Common.{◌*ℤ◌, SFits, to_z-of_z}
 use mir.Syntax.{w64, w128}
 use lib.IntN.{◌+ℤ◌}
-use Rattle.heco_noise_laws.proofs.Rounding.{product_size, plus_fits, product_128}
+use Rattle.heco_wide.proofs.Room.{product_size, plus_fits, product_128}
 use Rattle.heco_wide.proofs.row.plus_product.Goals as goal
 
 pub returns : goal.returns

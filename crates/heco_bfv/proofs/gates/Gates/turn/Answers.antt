@@ -12,6 +12,29 @@ use Rattle.heco_bfv.proofs.Shapes.{turned_ciphertext, turned_count}
 use Rattle.heco_bfv.proofs.SwitchSteps.{turn_first, turn_second}
 use Rattle.heco_bfv.proofs.gates.Gates.turn.Goals as goal
 
+pub turn_into-requires-clause-out_len : goal.turn_into-requires-clause-out_len
+turn_into-requires-clause-out_len c =
+    let A = seen c.args.self.now.preset.n c.args.a.now c.a.inside.first c.a.inside.second c.a.inside.third c.a.view_is c.requires.a in
+    let O = seen c.args.self.now.preset.n c.args.out.now c.out.inside.first c.out.inside.second c.out.inside.third c.out.view_is c.requires.out in
+    O.first_long ∙ sym A.first_long
+
+pub turn_into-requires-clause-g_in : goal.turn_into-requires-clause-g_in
+turn_into-requires-clause-g_in c =
+    let A = seen c.args.self.now.preset.n c.args.a.now c.a.inside.first c.a.inside.second c.a.inside.third c.a.view_is c.requires.a in
+    let l : length c.a.inside.first ≡ c.args.self.now.preset.n = A.first_long in
+    rw l c.exponent-g.ensures.small
+
+pub turn_into-requires-2-clause-out_len : goal.turn_into-requires-2-clause-out_len
+turn_into-requires-2-clause-out_len c =
+    let A = seen c.args.self.now.preset.n c.args.a.now c.a.inside.first c.a.inside.second c.a.inside.third c.a.view_is c.requires.a in
+    c.args.self.now.turned_long ∙ sym A.second_long
+
+pub turn_into-requires-2-clause-g_in : goal.turn_into-requires-2-clause-g_in
+turn_into-requires-2-clause-g_in c =
+    let A = seen c.args.self.now.preset.n c.args.a.now c.a.inside.first c.a.inside.second c.a.inside.third c.a.view_is c.requires.a in
+    let l : length c.a.inside.second ≡ c.args.self.now.preset.n = A.second_long in
+    rw l c.exponent-g.ensures.small
+
 pub returns-clause-formula : goal.returns-clause-formula
 unfolding turned switched
 returns-clause-formula c =
