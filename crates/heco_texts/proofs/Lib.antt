@@ -3,5 +3,4 @@ pub mod FitLaws
 pub mod FormLaws
 pub mod LineLaws
 pub mod NumberLaws
-pub mod OutputLaws
 pub mod RuleLaws

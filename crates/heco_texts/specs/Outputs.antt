@@ -1,5 +1,5 @@
 -- The text of outputs: for each its name, ` =`, each value in decimal behind a space, and LF.
-use Rattle.std.specs.Prelude.{◌≡◌, ℕ, List, [], ◌∷◌, ◌++◌, length, codes, decimal}
+use Rattle.std.specs.Prelude.{ℕ, List, [], ◌∷◌, ◌++◌, codes, decimal}
 use Rattle.std.specs.List.{flat_map}
 use Rattle.heco_nums.specs.declared.shape.Shape.{Shape}
 
@@ -13,10 +13,3 @@ abbrev pub output_text : List Shape → List (List ℕ) → List ℕ
 output_text [] rows = []
 output_text (s ∷ shapes) [] = []
 output_text (s ∷ shapes) (row ∷ rows) = output_line s.name row ++ output_text shapes rows
-
--- one row for each shape, of its length
-abbrev pub HaveRows : List Shape → List (List ℕ) → Type 0
-HaveRows [] [] = Unit {0}
-HaveRows [] (row ∷ rows) = ⊥
-HaveRows (s ∷ shapes) [] = ⊥
-HaveRows (s ∷ shapes) (row ∷ rows) = (length row ≡ s.len) × HaveRows shapes rows

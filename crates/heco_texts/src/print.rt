@@ -1,6 +1,6 @@
 ghost use Rattle.std.specs.Prelude.{◌≡◌, ◌++◌, IfOk, OnOk, length};
 ghost use Rattle.std.specs.List.{flat_map};
-ghost use Rattle.heco_texts.specs.Outputs.{HaveRows, value_words, output_line, output_text};
+ghost use Rattle.heco_texts.specs.Outputs.{value_words, output_line, output_text};
 
 use heco_nums::{Bytes, List, Memory, Outputs, Shape};
 use itoa::Buffer;
@@ -45,9 +45,8 @@ fn text_of(alloc: Global, shapes: &[Shape], rows: &[List<u32>]) -> Result<Bytes,
 
 /// The text of outputs: for each shape in order its name, ` =`, for each of its values a space and the value in
 /// decimal, and LF.
-#[tactic(auto, using(crate::proofs::OutputLaws::row_count))]
 pub fn print_outputs(alloc: Global, s: &List<Shape>, o: &Outputs) -> Result<Bytes, Memory>
-    requires { HaveRows s.now o.now.rows }
+    requires { length o.now.rows ≡ length s.now }
     ensures { IfOk result (λ text. text ≡ output_text s.now o.now.rows) }
 {
     text_of(alloc, s.as_slice(), o.rows.as_slice())
