@@ -1,5 +1,6 @@
-ghost use Rattle.std.specs.Prelude.{◌≡◌, ◌<◌, IfOk, IfErr, Ok};
+ghost use Rattle.std.specs.Prelude.{◌≡◌, ◌<◌, IfOk, IfErr, Ok, true, length};
 ghost use Rattle.heco_execution.specs.Outcomes.{Refuses};
+ghost use Rattle.heco_types.specs.Shapes.{shapes_of};
 ghost use Rattle.heco_eval.specs.Typed.{modulus_named, outputs_of};
 
 use heco_execution::{EvalErr, Numbers};
@@ -18,6 +19,7 @@ fn modulus(t: &Typed) -> u32
 /// it breaks: IndexRange, PublicRange or TooLarge.
 pub fn plain(alloc: Global, t: &Typed, i: &Inputs) -> Result<Outputs, EvalErr>
     ensures ok { IfOk result (λ out. outputs_of t.now i.now.rows ≡ Ok out.rows) }
+    ensures count { IfOk result (λ out. length out.rows ≡ length (shapes_of true t.now.ports)) }
     ensures err { IfErr result (λ e. Refuses e (outputs_of t.now i.now.rows)) }
 {
     let numbers = Numbers { t: modulus(t) };

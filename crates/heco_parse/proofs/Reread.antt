@@ -39,7 +39,7 @@ module _ (text : List ℕ) (tokens : List Token) (x : Source) (split : Splits 0 
   same_tokens ts s = subst (λ v. IsSource 64 8 (lexemes_of text v) x) (one_split split s) is
 
   -- a text that has a tree is refused for want of memory alone
-  not_refused : length text ≤ source_limit → (refusal : ParseErr) → IsRefused text refusal → refusal ≡ e.Memory
+  pub not_refused : length text ≤ source_limit → (refusal : ParseErr) → IsRefused text refusal → refusal ≡ e.Memory
   not_refused short e.Memory h = refl
   not_refused short e.SourceLong h = absurd (omega arith)
   not_refused short (e.At rule.BadByte at) h = absurd (h.no_split tokens split)

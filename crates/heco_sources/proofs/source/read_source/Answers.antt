@@ -1,0 +1,12 @@
+use Rattle.std.proofs.Common.{refl, sym, subst, Err}
+use Rattle.heco_sources.specs.Sources.{IsRefused}
+use Rattle.heco_sources.proofs.SourceLaws.{reads, parse_refused}
+use Rattle.heco_sources.proofs.source.read_source.Goals as goal
+
+pub returns-in-Ok-clause-reads : goal.returns-in-Ok-clause-reads
+returns-in-Ok-clause-reads c = reads c.args.text.now c.typed.result c.typed.ensures.source c.typed.ensures.refused
+
+pub returns-in-Err-clause-reads : goal.returns-in-Err-clause-reads
+returns-in-Err-clause-reads c =
+    let refused = parse_refused c.args.text.now c.in-Err.error (Err c.in-Err.error) refl c.in-Err.ensures.long.1 c.in-Err.ensures.refused in
+    reads c.args.text.now (Err c.parse_answer.result) tt (subst (IsRefused c.args.text.now) (sym c.parse_answer.ensures) refused)
