@@ -6,6 +6,8 @@ mod slots;
 mod whole;
 mod wires;
 
+pub use cells::rows_of;
+pub use slots::filled;
 pub use whole::meaning;
 
 #[cfg(test)]

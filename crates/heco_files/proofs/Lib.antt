@@ -1,0 +1,5 @@
+pub mod Spans
+pub mod Lengths
+pub mod Cuts
+pub mod Once
+pub mod RowBounds

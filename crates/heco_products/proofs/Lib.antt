@@ -1,0 +1,3 @@
+pub mod OnePreset
+pub mod CircuitFacts
+pub mod Products

@@ -1,0 +1,66 @@
+-- What the ciphertexts of a circuit's result decrypt to, and the text of its outputs.
+use Rattle.std.specs.Prelude.{ℕ, ◌+◌, ◌==◌, Bool, true, false, List, [], ◌∷◌, length, map, ℤ}
+use Rattle.std.specs.List.{list_any, count_by, range_with_len}
+use Rattle.heco_circuit.specs.declared.gate.Cell.{Cell}
+use Rattle.heco_circuit.specs.declared.gate.Cell.TheVariants.{Number, Slot}
+use Rattle.heco_circuit.specs.declared.gate.Output.{Output}
+use Rattle.heco_circuit.specs.Plans.{Plan as Circuit}
+use Rattle.heco_meaning.specs.Meanings.{output_values}
+use Rattle.heco_nums.specs.declared.preset.Preset.{Preset}
+use Rattle.heco_nums.specs.declared.shape.Shape.{Shape}
+use Rattle.heco_scheme.specs.Encryption.{decrypted}
+use Rattle.heco_slots.specs.Slots.{decoded}
+use Rattle.heco_texts.specs.Outputs.{output_text}
+
+-- ---- the wires of outputs
+
+abbrev pub is_slot_of : ℕ → Cell → Bool
+is_slot_of w (Number n) = false
+is_slot_of w (Slot wire slot) = wire == w
+
+-- an element of an output is a slot of the wire
+abbrev pub is_output_wire : List Output → ℕ → Bool
+is_output_wire outputs w = list_any (λ o. list_any (is_slot_of w) o.cells) outputs
+
+abbrev pub wire_count : Circuit → ℕ
+wire_count c = length c.inputs + length c.gates
+
+-- for each wire whether an output has it
+unfoldable pub output_wires : Circuit → List Bool
+output_wires c = map (is_output_wire c.outputs) (range_with_len 0 (wire_count c))
+
+-- how many different wires outputs have: a result has so many ciphertexts
+unfoldable pub output_wire_count : Circuit → ℕ
+output_wire_count c = count_by (λ b. b) (output_wires c)
+
+-- ---- the slots of these wires
+
+-- the slots of the plaintext that the ciphertext decrypts to
+unfoldable pub decrypted_slots : Preset → List ℤ → List (List ℕ) → List ℕ
+decrypted_slots p s c = decoded p (decrypted p s c)
+
+-- an output's wire has the slots of the next ciphertext, another wire none
+abbrev pub next_slots : Preset → List ℤ → Bool → List (List (List ℕ)) → List ℕ
+next_slots p s false cs = []
+next_slots p s true [] = []
+next_slots p s true (c ∷ cs) = decrypted_slots p s c
+
+abbrev pub behind_next : {A : Type 0} → Bool → List A → List A
+behind_next false cs = cs
+behind_next true [] = []
+behind_next true (c ∷ cs) = cs
+
+-- for each wire its slots: the outputs' wires take the ciphertexts in order
+abbrev pub decrypted_wires : Preset → List ℤ → List Bool → List (List (List ℕ)) → List (List ℕ)
+decrypted_wires p s [] cs = []
+decrypted_wires p s (wire ∷ wires) cs = next_slots p s wire cs ∷ decrypted_wires p s wires (behind_next wire cs)
+
+-- ---- the text
+
+-- the name of an output, and how many elements it has
+abbrev pub shape_of : Output → Shape
+shape_of o = record { name = o.name; len = length o.cells }
+
+-- each output with its elements: its numbers, and the slots of its wires
+unfoldable pub outputs_text : Preset → Circuit → List ℤ → List (List (List ℕ)) → List ℕ
+outputs_text p c s cs = output_text (map shape_of c.outputs) (map (output_values (decrypted_wires p s (output_wires c) cs)) c.outputs)

@@ -1,0 +1,3 @@
+pub mod PresetRows
+pub mod Encrypting
+pub mod Decrypting

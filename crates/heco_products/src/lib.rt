@@ -1,0 +1,10 @@
+//! What a circuit's inputs are encrypted to, and what its result is decrypted to.
+#![tactic(auto)]
+
+mod decrypting;
+mod encrypting;
+mod wires;
+
+pub use decrypting::outputs_text;
+pub use encrypting::inputs_file;
+pub use wires::{output_wire_count, output_wires};
