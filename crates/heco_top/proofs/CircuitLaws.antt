@@ -1,32 +1,25 @@
 -- A circuit file whose first bytes were judged, one more than a circuit file may have.
 use Rattle.std.proofs.Common.{◌≡◌, ◌≤◌, ◌<◌, ◌^◌, ◌∙◌, ℕ, List, length, take, drop, Result, Ok, Err, refl, sym, ap, subst, inl, inr, arith}
 use Rattle.std.proofs.lemmas.List.{length-drop, take-take}
-use Rattle.std.proofs.lemmas.Bool.{cases_lt, and_parts, leb-true}
+use Rattle.std.proofs.lemmas.Bool.{cases_lt}
 use Rattle.heco_fields.specs.Formats.{Format, Value, Field, BreaksAt, IsBroken}
 use Rattle.heco_circuit.specs.CircuitFile.{FileBreaksAt, IsNoisyFile, Spells, HasCause, Answers}
 use Rattle.heco_circuit.specs.declared.error.CirErr.{CirErr}
 use Rattle.heco_circuit.specs.declared.error.CirErr.TheVariants as circuit_error
 use Rattle.heco_circuit.specs.CircuitFormat.{circuit}
-use Rattle.heco_circuit.specs.Circuits.{most, IsCircuit}
+use Rattle.heco_circuit.specs.Circuits.{most}
 use Rattle.heco_circuit.specs.Plans.{Plan as Circuit}
 use Rattle.heco_circuit.proofs.FileLaws.{short_to, spelling_judged}
 use Rattle.heco_top.specs.declared.outcome.Outcome.{Outcome}
 use Rattle.heco_top.specs.declared.outcome.Outcome.TheVariants.{Ok as Fine, Refused, ReadFault, WriteFault, Memory}
 use Rattle.heco_top.specs.declared.outcome.Refusal.{Refusal}
-use Rattle.heco_top.specs.declared.outcome.Refusal.TheVariants.{Usage, At, InputAt, Length, Bounds, Malformed, Noisy}
+use Rattle.heco_top.specs.declared.outcome.Refusal.TheVariants.{Usage, SourceLong, At, InputLong, InputAt, InputMissing, Length, Bounds, Malformed, Noisy, WrongPreset, Count}
 use Rattle.heco_top.specs.CircuitFiles.{IsCircuitRefusal}
 use Rattle.heco_top.specs.Reads.{Judges, circuit_answer}
 use Rattle.heco_top.proofs.InputLaws.{cut_first, cut_whole}
 
 spelled_short : (text : List ℕ) (c : Circuit) → Spells text c → length text ≤ most
 spelled_short text c h = subst (λ t. length t ≤ most) (sym h.text) (short_to c h.valid.2)
-
-pub few_inputs : (c : Circuit) → IsCircuit c → length c.inputs ≤ 256
-few_inputs c valid =
-    let formed = and_parts _ _ valid.0 in
-    let ports = and_parts _ _ formed.1 in
-    let inputs = and_parts _ _ ports.0 in
-    leb-true (length c.inputs) 256 inputs.0
 
 -- two circuits have no text in common
 pub spells_once : (text : List ℕ) (c d : Circuit) → Spells text c → Spells text d → c ≡ d
@@ -79,6 +72,11 @@ judged_circuit text bytes (Err (Refused r)) cut j =
     refused (Malformed which at) h = (h.0, breaks_whole text bytes at cut h.1)
     refused (Noisy which gate bound) h = (h.0, subst (λ t. IsNoisyFile t gate bound) (cut_first text bytes (2 ^ 29) cut (omega (arith, h.1.short))) h.1)
     refused Usage h = absurd h
+    refused InputLong h = absurd h
+    refused SourceLong h = absurd h
+    refused (InputMissing which) h = absurd h
+    refused (WrongPreset which kept found) h = absurd h
+    refused (Count which want found) h = absurd h
     refused (At rule at) h = absurd h
     refused (InputAt rule line) h = absurd h
     refused (Length which at) h = absurd h

@@ -1,5 +1,5 @@
 -- What a done command owes: each file can be read as one thing alone, so that what was gathered is owed.
-use Rattle.std.proofs.Common.{◌≡◌, ◌∙◌, ℕ, Bool, true, false, List, [], ◌∷◌, ◌++◌, Option, Some, None, Result, Ok, Err, refl, sym, ap, subst, inl, inr, append-nil}
+use Rattle.std.proofs.Common.{◌≡◌, ◌∙◌, ℕ, Bool, true, false, List, [], ◌∷◌, ◌++◌, Option, Some, None, Result, Ok, Err, refl, sym, ap, subst, inl, inr, append-nil, length}
 use Rattle.std.specs.Prelude.{unwrap_or, if◌then◌else◌}
 use Rattle.std.specs.Str.{bytes_eq}
 use Rattle.std.specs.Cmp.Lexicographic.{same_text, other_text}
@@ -8,48 +8,58 @@ use Rattle.heco_outside.specs.Calls.{HasSet}
 use Rattle.heco_outside.specs.declared.store.Call.{Call}
 use Rattle.heco_circuit.specs.Plans.{Plan as Circuit}
 use Rattle.heco_nums.specs.declared.shape.Values.{Values}
-use Rattle.heco_source.specs.Sources.{Simple}
+use Rattle.heco_products.specs.Decrypting.{output_wire_count}
+use Rattle.heco_products.specs.PresetRows.{preset_of}
+use Rattle.heco_sources.proofs.SourceLaws.{one_source}
+use Rattle.heco_syntax.specs.declared.tree.Source.{Source}
 use Rattle.heco_top.specs.declared.command.Command.{Command}
 use Rattle.heco_top.specs.declared.command.Command.TheVariants.{Plain, Circuit as OnCircuit}
 use Rattle.heco_top.specs.declared.command.Task.{Task}
-use Rattle.heco_top.specs.declared.command.Task.TheVariants.{Show, Draw, Keys}
+use Rattle.heco_top.specs.declared.command.Task.TheVariants.{Show, Draw, Keys, Encrypt, Decrypt}
 use Rattle.heco_top.specs.declared.outcome.Outcome.{Outcome}
 use Rattle.heco_top.specs.declared.outcome.Outcome.TheVariants.{Ok as Fine, Refused, ReadFault, WriteFault, Memory}
 use Rattle.heco_top.specs.declared.outcome.Refusal.{Refusal}
 use Rattle.heco_top.specs.declared.product.Planned.{Planned}
 use Rattle.heco_top.specs.declared.product.Product.{Product}
-use Rattle.heco_top.specs.Commands.{job_of, plain_job, values_job, circuit_job, task_job, material_job}
+use Rattle.heco_top.specs.Commands.{job_of, plain_job, values_job, outputs_job, circuit_job, task_job, material_job, evaluation_job, encryptions_job, inputs_job, secret_job, result_job}
 use Rattle.heco_top.specs.Done.{Owes, after_writes, with_file, Done, DoneIfOk}
 use Rattle.heco_top.specs.Endings.{Files, SameFiles, Gathers, Writes, EndsAfter, Ends, Printed}
-use Rattle.heco_top.specs.Jobs.{Job, Read, Give}
+use Rattle.heco_top.specs.Jobs.{Job, Read, Judge, Give}
 use Rattle.heco_top.specs.Words.{name_of}
+use Rattle.heco_top.proofs.ExchangedLaws.{evaluation_alone, encryptions_alone, inputs_alone, secret_alone, result_alone}
 use Rattle.heco_top.proofs.CircuitLaws.{spells_once}
 use Rattle.heco_top.proofs.MaterialLaws.{spells_material_once}
-use Rattle.heco_top.proofs.RowLaws.{unique_input}
 use Rattle.heco_top.proofs.StageLaws.{same_files}
 
--- ---- each file can be read as one thing alone
+-- ---- each file can be read as one thing alone, and one thing alone comes of what was read
 
 unfoldable Tells : Job → Type 0
 Tells (Read which Thing Fits Refuses next) = ((text : List ℕ) (x y : Thing) → Fits text x → Fits text y → x ≡ y) × ((x : Thing) → Tells (next x))
+Tells (Judge Thing Fits Refuses next) = ((x y : Thing) → Fits x → Fits y → x ≡ y) × ((x : Thing) → Tells (next x))
 Tells (Give Allowed) = Unit {0}
 
 tells_task : (task : Task) (c : Circuit) → Tells (task_job task c)
-unfolding Tells task_job material_job
+unfolding Tells task_job material_job evaluation_job encryptions_job inputs_job secret_job result_job
 tells_task Show c = tt
 tells_task (Draw seed) c = tt
 tells_task Keys c = (spells_material_once c, λ k. tt)
+tells_task Encrypt c = let p = preset_of c.preset in (evaluation_alone p, λ key. (encryptions_alone p (length c.inputs), λ rows. (inputs_alone p.t c.inputs, λ v. tt)))
+tells_task Decrypt c = let p = preset_of c.preset in (secret_alone p, λ s. (result_alone p (output_wire_count c), λ cs. tt))
 
 abbrev values_of : List (List ℕ) → Values
 values_of rows = record { rows = rows }
 
-tells_values : (s : Simple) → Tells (values_job s)
+tells_outputs : (s : Source) (v : Values) → Tells (outputs_job s v)
+unfolding Tells outputs_job
+tells_outputs s v = ((λ out other h k. ap values_of (let both : Ok out.rows ≡ Ok other.rows = sym h ∙ k in cc)), λ out. tt)
+
+tells_values : (s : Source) → Tells (values_job s)
 unfolding Tells values_job
-tells_values s = ((λ text v w hv hw. ap values_of (unique_input s.inputs text v w hv hw)), λ v. tt)
+tells_values s = ((λ text v w hv hw. ap values_of (hv.rows ∙ sym hw.rows)), tells_outputs s)
 
 tells : (c : Command) → Tells (job_of c)
 unfolding Tells plain_job circuit_job
-tells Plain = ((λ text s s' h h'. same_Some s s' (sym h ∙ h')), tells_values)
+tells Plain = (one_source, tells_values)
 tells (OnCircuit task) = (spells_once, tells_task task)
 
 module _ (words : List (List ℕ)) where
@@ -72,6 +82,16 @@ module _ (words : List (List ℕ)) where
   owed_behind which Fits Refuses next file text x (Err (WriteFault k)) one there fits h = tt
   owed_behind which Fits Refuses next file text x (Err Memory) one there fits h = tt
 
+  owed_judged : {Thing : Type 0} (Fits : Thing → Type 0) (Refuses : Refusal → Type 0) (next : Thing → Job) (file : Files) (x : Thing) (result : Result Product Outcome)
+      → ((y z : Thing) → Fits y → Fits z → y ≡ z) → Fits x → Owed (next x) file result → Owed (Judge Thing Fits Refuses next) file result
+  unfolding Owes
+  owed_judged Fits Refuses next file x (Ok p) one fits h = λ x' fits'. subst (λ y. Owes words (next y) file p) (one x x' fits fits') h
+  owed_judged Fits Refuses next file x (Err Fine) one fits h = h
+  owed_judged Fits Refuses next file x (Err (Refused r)) one fits h = tt
+  owed_judged Fits Refuses next file x (Err (ReadFault k)) one fits h = tt
+  owed_judged Fits Refuses next file x (Err (WriteFault k)) one fits h = tt
+  owed_judged Fits Refuses next file x (Err Memory) one fits h = tt
+
   gather_owed : (job : Job) (file : Files) (calls calls' : List Call) (result : Result Product Outcome) → Tells job → Gathers words job file calls calls' result → Owed job file result
   unfolding Gathers Tells Owes
   gather_owed (Read which Thing Fits Refuses next) file calls calls' result t (inl h) = subst (Owed (Read which Thing Fits Refuses next) file) (sym h.0) tt
@@ -79,6 +99,10 @@ module _ (words : List (List ℕ)) where
   gather_owed (Read which Thing Fits Refuses next) file calls calls' result t (inr (inr (text, (there, inl (none, (r, (refuses, (ends, grew)))))))) = subst (Owed (Read which Thing Fits Refuses next) file) (sym ends) tt
   gather_owed (Read which Thing Fits Refuses next) file calls calls' result t (inr (inr (text, (there, inr (x, (fits, more)))))) =
       owed_behind which Fits Refuses next file text x result t.0 there fits (gather_owed (next x) file _ calls' result (t.1 x) more)
+  gather_owed (Judge Thing Fits Refuses next) file calls calls' result t (inl h) = subst (Owed (Judge Thing Fits Refuses next) file) (sym h.0) tt
+  gather_owed (Judge Thing Fits Refuses next) file calls calls' result t (inr (inl (none, (r, (refuses, (ends, grew)))))) = subst (Owed (Judge Thing Fits Refuses next) file) (sym ends) tt
+  gather_owed (Judge Thing Fits Refuses next) file calls calls' result t (inr (inr (x, (fits, more)))) =
+      owed_judged Fits Refuses next file x result t.0 fits (gather_owed (next x) file calls calls' result (t.1 x) more)
   gather_owed (Give Allowed) file calls calls' result t (inl (p, (allowed, is)), grew) = subst (Owed (Give Allowed) file) (sym is) allowed
   gather_owed (Give Allowed) file calls calls' result t (inr is, grew) = subst (Owed (Give Allowed) file) (sym is) tt
 

@@ -7,7 +7,7 @@ use Rattle.heco_top.specs.declared.outcome.Refusal.{Refusal}
 use Rattle.heco_top.specs.declared.product.Planned.{Planned}
 use Rattle.heco_top.specs.declared.product.Product.{Product}
 use Rattle.heco_top.specs.Endings.{Files, SameFiles, Gathers, Writes, EndsAfter, JobEnds, Printed}
-use Rattle.heco_top.specs.Jobs.{Job, Read, Give}
+use Rattle.heco_top.specs.Jobs.{Job, Read, Judge, Give}
 use Rattle.heco_top.specs.Plans.{Stands, IsClear}
 
 printed_stands : (text : Option (List ℕ)) (file file' : Files) (out out' : List ℕ) (short short' : ℕ) (outcome : Outcome) → Printed text out out' short short' outcome → Stands file file' out out' short short' outcome
@@ -83,6 +83,9 @@ module _ (words : List (List ℕ)) where
   not_refused (Read which Thing Fits Refuses next) file calls calls' result f is clear (inr (inr (text, (there, inl (none, h))))) = let x = (clear text there).0 in none x.0 x.1
   not_refused (Read which Thing Fits Refuses next) file calls calls' result f is clear (inr (inr (text, (there, inr (x, (fits, more)))))) =
       not_refused (next x) file _ calls' result f is ((clear text there).1 x fits) more
+  not_refused (Judge Thing Fits Refuses next) file calls calls' result f is clear (inl h) = cc
+  not_refused (Judge Thing Fits Refuses next) file calls calls' result f is clear (inr (inl (none, h))) = none clear.0.0 clear.0.1
+  not_refused (Judge Thing Fits Refuses next) file calls calls' result f is clear (inr (inr (x, (fits, more)))) = not_refused (next x) file calls calls' result f is (clear.1 x fits) more
   not_refused (Give Allowed) file calls calls' result f is clear (inl (p, (allowed, h)), grew) = cc
   not_refused (Give Allowed) file calls calls' result f is clear (inr h, grew) = cc
 

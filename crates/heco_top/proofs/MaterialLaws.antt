@@ -24,7 +24,7 @@ use Rattle.heco_nums.specs.declared.preset.Preset.{Preset}
 use Rattle.heco_top.specs.declared.outcome.Outcome.{Outcome}
 use Rattle.heco_top.specs.declared.outcome.Outcome.TheVariants.{Ok as Fine, Refused, ReadFault, WriteFault, Memory}
 use Rattle.heco_top.specs.declared.outcome.Refusal.{Refusal}
-use Rattle.heco_top.specs.declared.outcome.Refusal.TheVariants.{Usage, At, InputAt, Length, Bounds, Malformed, Noisy}
+use Rattle.heco_top.specs.declared.outcome.Refusal.TheVariants.{Usage, SourceLong, At, InputLong, InputAt, InputMissing, Length, Bounds, Malformed, Noisy, WrongPreset, Count}
 use Rattle.heco_top.specs.declared.product.Product.{Product}
 use Rattle.heco_top.specs.CircuitFiles.{SpellsKeys, IsKeysRefusal, SpellsMaterial, IsMaterialRefusal, material_length, needed_keys, made_key, switches_of, purpose_of, secret_file, evaluation_file}
 use Rattle.heco_top.specs.Commands.{Stores, two_files}
@@ -99,7 +99,7 @@ judged_read c p needs text result id relin turns spelled only cause =
 
 -- ---- the first bytes
 
-long_length : (stated : ℕ) (text bytes : List ℕ) (at : ℕ) → take (stated + 1) text ≡ bytes → (length bytes ≢ stated) × (at ≡ min (length bytes) stated) → (length text ≢ stated) × (at ≡ min (length text) stated)
+pub long_length : (stated : ℕ) (text bytes : List ℕ) (at : ℕ) → take (stated + 1) text ≡ bytes → (length bytes ≢ stated) × (at ≡ min (length bytes) stated) → (length text ≢ stated) × (at ≡ min (length text) stated)
 long_length stated text bytes at cut h = elim (cases_lt (length text) (stated + 1)) [
   | inl short ↦ subst (λ t. (length t ≢ stated) × (at ≡ min (length t) stated)) (cut_whole text bytes (stated + 1) cut short) h
   | inr long ↦ (let l : length bytes ≡ stated + 1 = sym (ap length cut) ∙ length-take-le (stated + 1) text long in ((λ e. omega arith), omega (arith, h.1)))
@@ -120,6 +120,11 @@ keys_cut n h b count text bytes (Err (Refused r)) cut j =
     refused (Malformed which at) s = absurd s
     refused (Noisy which gate bound) s = absurd s
     refused Usage s = absurd s
+    refused InputLong s = absurd s
+    refused SourceLong s = absurd s
+    refused (InputMissing which) s = absurd s
+    refused (WrongPreset which kept found) s = absurd s
+    refused (Count which want found) s = absurd s
     refused (At rule at) s = absurd s
     refused (InputAt rule line) s = absurd s
 keys_cut n h b count text bytes (Err Memory) cut j = tt

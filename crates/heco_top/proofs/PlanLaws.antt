@@ -5,25 +5,27 @@ use Rattle.heco_outside.specs.declared.store.Call.{Call}
 use Rattle.heco_top.specs.declared.command.Command.{Command}
 use Rattle.heco_top.specs.declared.command.Command.TheVariants.{Plain, Circuit as OnCircuit}
 use Rattle.heco_top.specs.declared.command.Task.{Task}
-use Rattle.heco_top.specs.declared.command.Task.TheVariants.{Show, Draw, Keys}
+use Rattle.heco_top.specs.declared.command.Task.TheVariants.{Show, Draw, Keys, Encrypt, Decrypt}
 use Rattle.heco_top.specs.declared.outcome.Outcome.{Outcome}
 use Rattle.heco_top.specs.declared.outcome.Outcome.TheVariants.{Ok as Fine, Refused, ReadFault, WriteFault, Memory}
+use Rattle.heco_top.specs.declared.outcome.Refusal.{Refusal}
 use Rattle.heco_top.specs.declared.product.Planned.{Planned}
 use Rattle.heco_top.specs.declared.product.Product.{Product}
 use Rattle.heco_top.specs.Calls.{Step, reading, writing, done, failed}
-use Rattle.heco_top.specs.Commands.{Plan, plan_of, task_plan, job_of, plain_job, values_job, circuit_job, task_job, material_job, Prints, Stores, two_files}
+use Rattle.heco_top.specs.Commands.{Plan, plan_of, task_plan, job_of, plain_job, values_job, outputs_job, circuit_job, task_job, material_job, evaluation_job, encryptions_job, inputs_job, secret_job, result_job, Prints, Stores, two_files, one_file}
 use Rattle.heco_top.specs.Endings.{Files, Gathers, Writes, EndsAfter, JobEnds, Printed}
-use Rattle.heco_top.specs.Jobs.{Job, Read, Give}
+use Rattle.heco_top.specs.Jobs.{Job, Read, Judge, Give}
 use Rattle.heco_top.specs.Plans.{FitsPlan, Begun, StoppedAt, FollowsSteps, steps_of}
 
 -- the job reads these words in order, and what it gives is planned
 unfoldable pub Plans : Job → List ℕ → Plan → Type 0
 Plans (Read which Thing Fits Refuses next) [] plan = ⊥
 Plans (Read which Thing Fits Refuses next) (r ∷ reads) plan = (which ≡ r) × ((x : Thing) → Plans (next x) reads plan)
+Plans (Judge Thing Fits Refuses next) reads plan = (x : Thing) → Plans (next x) reads plan
 Plans (Give Allowed) [] plan = (p : Product) → Allowed p → FitsPlan plan p
 Plans (Give Allowed) (r ∷ reads) plan = ⊥
 
-fits_plain : (text : List ℕ) (p : Product) → Prints text p → FitsPlan (plan_of Plain) p
+pub fits_plain : (text : List ℕ) (p : Product) → Prints text p → FitsPlan (plan_of Plain) p
 fits_plain text p h = record { writes = ap (map (λ w. w.which)) h.writes; text = ap is_some h.text }
 
 fits_show : (text : List ℕ) (p : Product) → Prints text p → FitsPlan (task_plan Show) p
@@ -35,15 +37,23 @@ fits_draw seed first second p h = record { writes = ap (map (λ w. w.which)) h.w
 fits_keys : (first second : List ℕ) (p : Product) → Stores (two_files first second) p → FitsPlan (task_plan Keys) p
 fits_keys first second p h = record { writes = ap (map (λ w. w.which)) h.writes; text = ap is_some h.text }
 
+fits_encrypt : (bytes : List ℕ) (p : Product) → Stores (one_file bytes) p → FitsPlan (task_plan Encrypt) p
+fits_encrypt bytes p h = record { writes = ap (map (λ w. w.which)) h.writes; text = ap is_some h.text }
+
+fits_decrypt : (text : List ℕ) (p : Product) → Prints text p → FitsPlan (task_plan Decrypt) p
+fits_decrypt text p h = record { writes = ap (map (λ w. w.which)) h.writes; text = ap is_some h.text }
+
 plans_task : (task : Task) → Plans (circuit_job task) (task_plan task).reads (task_plan task)
-unfolding Plans circuit_job task_job material_job
+unfolding Plans circuit_job task_job material_job evaluation_job encryptions_job inputs_job secret_job result_job
 plans_task Show = (refl, (λ c p h. fits_show _ p h))
 plans_task (Draw seed) = (refl, (λ c p h. fits_draw seed _ _ p h))
 plans_task Keys = (refl, (λ c. (refl, (λ k p h. fits_keys _ _ p h))))
+plans_task Encrypt = (refl, (λ c. (refl, (λ key. (refl, (λ rows. (refl, (λ v p h. fits_encrypt _ p h))))))))
+plans_task Decrypt = (refl, (λ c. (refl, (λ s. (refl, (λ cs p h. fits_decrypt _ p h))))))
 
 pub plans : (c : Command) → Plans (job_of c) (plan_of c).reads (plan_of c)
-unfolding Plans plain_job values_job
-plans Plain = (refl, (λ s. (refl, (λ v p h. fits_plain _ p h))))
+unfolding Plans plain_job values_job outputs_job
+plans Plain = (refl, (λ s. (refl, (λ v out p h. fits_plain _ p h))))
 plans (OnCircuit task) = plans_task task
 
 -- no written word has the number of standard output
@@ -56,6 +66,8 @@ positive Plain = tt
 positive (OnCircuit Show) = tt
 positive (OnCircuit (Draw seed)) = (omega arith, (omega arith, tt))
 positive (OnCircuit Keys) = (omega arith, (omega arith, tt))
+positive (OnCircuit Encrypt) = (omega arith, tt)
+positive (OnCircuit Decrypt) = tt
 
 module _ (words : List (List ℕ)) where
   abbrev pub GatherFollows : List ℕ → Plan → List Call → List Call → Result Product Outcome → Type 0
@@ -102,6 +114,12 @@ module _ (words : List (List ℕ)) where
   memory_follows r reads plan calls calls' (inl is) = subst (λ cs. Begun words (map reading (r ∷ reads)) calls cs) (sym is) (not_begun (map reading (r ∷ reads)) calls)
   memory_follows r reads plan calls calls' (inr is) = begun_once (reading r) (map reading reads) calls calls' is
 
+  refused_follows : (reads : List ℕ) (plan : Plan) (calls calls' : List Call) (f : Refusal) → calls' ≡ calls → GatherFollows reads plan calls calls' (Err (Refused f))
+  refused_follows reads plan calls calls' f is = subst (λ cs. Begun words (map reading reads) calls cs) (sym is) (not_begun (map reading reads) calls)
+
+  memory_at_once : (reads : List ℕ) (plan : Plan) (calls calls' : List Call) → calls' ≡ calls → GatherFollows reads plan calls calls' (Err Memory)
+  memory_at_once reads plan calls calls' is = subst (λ cs. Begun words (map reading reads) calls cs) (sym is) (not_begun (map reading reads) calls)
+
   pub gather_follows : (job : Job) (reads : List ℕ) (plan : Plan) (file : Files) (calls calls' : List Call) (result : Result Product Outcome) → Plans job reads plan → Gathers words job file calls calls' result → GatherFollows reads plan calls calls' result
   unfolding Plans Gathers
   gather_follows (Read which Thing Fits Refuses next) [] plan file calls calls' result p h = absurd p
@@ -117,6 +135,11 @@ module _ (words : List (List ℕ)) where
   gather_follows (Read which Thing Fits Refuses next) (r ∷ reads) plan file calls calls' result p (inr (inr (text, (there, inr (x, (fits, more)))))) =
       subst (λ k. GatherFollows (k ∷ reads) plan calls calls' result) p.0
       (behind which reads plan calls calls' result (gather_follows (next x) reads plan file (calls ++ done words (reading which) ∷ []) calls' result (p.1 x) more))
+  gather_follows (Judge Thing Fits Refuses next) reads plan file calls calls' result p (inl h) =
+      subst (λ res. GatherFollows reads plan calls calls' res) (sym h.0) (memory_at_once reads plan calls calls' h.1)
+  gather_follows (Judge Thing Fits Refuses next) reads plan file calls calls' result p (inr (inl (none, (f, (refuses, (is, grew)))))) =
+      subst (λ res. GatherFollows reads plan calls calls' res) (sym is) (refused_follows reads plan calls calls' f grew)
+  gather_follows (Judge Thing Fits Refuses next) reads plan file calls calls' result p (inr (inr (x, (fits, more)))) = gather_follows (next x) reads plan file calls calls' result (p x) more
   gather_follows (Give Allowed) (r ∷ reads) plan file calls calls' result p h = absurd p
   gather_follows (Give Allowed) [] plan file calls calls' result p (inl (q, (allowed, is)), grew) =
       subst (λ res. GatherFollows [] plan calls calls' res) (sym is) (grew ∙ sym (append-nil calls), p q allowed)

@@ -8,8 +8,8 @@ use Rattle.heco_top.specs.declared.outcome.Outcome.TheVariants.{Ok as Fine, Refu
 use Rattle.heco_top.specs.declared.outcome.Refusal.{Refusal}
 use Rattle.heco_top.specs.declared.product.Product.{Product}
 use Rattle.heco_top.specs.Endings.{Files, Gathers}
-use Rattle.heco_top.specs.Jobs.{Job, Read, Give}
-use Rattle.heco_top.specs.Reads.{ReadsBytes, ReadsThing, Judges, Gives}
+use Rattle.heco_top.specs.Jobs.{Job, Read, Judge, Give}
+use Rattle.heco_top.specs.Reads.{ReadsBytes, ReadsThing, Judges, Settles, Gives}
 use Rattle.heco_top.specs.Words.{name_of}
 
 -- the file whose first bytes were read
@@ -53,6 +53,20 @@ module _ {Thing : Type 0} (words : List (List ℕ)) (which : ℕ) (Fits : List �
       → Gathers words (Read which Thing Fits Refuses next) file calls calls' result
   unfolding Gathers
   goes_on next calls mid calls' x result h more = inr (inr (h.0, (h.1.0, inr (x, (h.1.1.0, subst (λ cs. Gathers words (next x) file cs calls' result) h.1.1.1 more)))))
+
+-- judging what was read already, and going on with what came of it
+module _ {Thing : Type 0} (words : List (List ℕ)) (Fits : Thing → Type 0) (Refuses : Refusal → Type 0) (next : Thing → Job) (file : Files) (calls : List Call) where
+  pub settled : (calls' : List Call) (x : Thing) (result : Result Product Outcome) → Fits x → Gathers words (next x) file calls calls' result → Gathers words (Judge Thing Fits Refuses next) file calls calls' result
+  unfolding Gathers
+  settled calls' x result fits more = inr (inr (x, (fits, more)))
+
+  pub unsettled : (o : Outcome) → Settles Fits Refuses (Err o) → Gathers words (Judge Thing Fits Refuses next) file calls calls (Err o)
+  unfolding Gathers
+  unsettled (Refused r) h = inr (inl (h.0, (r, (h.1, (refl, refl)))))
+  unsettled Memory h = inl (refl, refl)
+  unsettled Fine h = absurd h
+  unsettled (ReadFault k) h = absurd h
+  unsettled (WriteFault k) h = absurd h
 
 -- the product is one of those that are allowed
 pub gives : (words : List (List ℕ)) (Allowed : Product → Type 0) (file : Files) (calls : List Call) (p : Product) → Allowed p → Gathers words (Give Allowed) file calls calls (Ok p)

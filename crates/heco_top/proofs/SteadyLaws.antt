@@ -40,7 +40,7 @@ pub quiet_then : {T : Type 0} (still : Type 0) (before mid now : ℕ) (result : 
 quiet_then still before mid now result same q = record { stays = q.stays; no_fault = q.no_fault; same = q.same ∙ same }
 
 -- one of the products that are allowed, or want of memory, is no fault
-gives_no_fault : (Allowed : Product → Type 0) (result : Result Product Outcome) → Gives Allowed result → ¬ IsFault result
+pub gives_no_fault : (Allowed : Product → Type 0) (result : Result Product Outcome) → Gives Allowed result → ¬ IsFault result
 gives_no_fault Allowed (Ok p) h fault = fault
 gives_no_fault Allowed (Err Memory) h fault = fault
 gives_no_fault Allowed (Err (Refused r)) h fault = fault

@@ -8,7 +8,7 @@ use Rattle.heco_top.specs.declared.product.Planned.{Planned}
 use Rattle.heco_top.specs.declared.product.Product.{Product}
 use Rattle.heco_top.specs.Commands.{job_of}
 use Rattle.heco_top.specs.Endings.{Files, SameFiles}
-use Rattle.heco_top.specs.Jobs.{Job, Read, Give}
+use Rattle.heco_top.specs.Jobs.{Job, Read, Judge, Give}
 use Rattle.heco_top.specs.Words.{name_of}
 
 -- the named file has these bytes, and all others stand
@@ -16,9 +16,10 @@ abbrev pub with_file : List ℕ → List ℕ → Files → Files
 with_file name bytes file = λ other. if bytes_eq other name then Some bytes else file other
 
 module _ (words : List (List ℕ)) where
-  -- the product is allowed for whatever things the files can be read as
+  -- the product is allowed for whatever things the files can be read as and may come of them
   unfoldable pub Owes : Job → Files → Product → Type 0
   Owes (Read which Thing Fits Refuses next) file p = (text : List ℕ) (x : Thing) → file (name_of words which) ≡ Some text → Fits text x → Owes (next x) file p
+  Owes (Judge Thing Fits Refuses next) file p = (x : Thing) → Fits x → Owes (next x) file p
   Owes (Give Allowed) file p = Allowed p
 
   -- the files after these writes in order

@@ -16,7 +16,7 @@ use Rattle.heco_top.specs.declared.product.Planned.{Planned}
 use Rattle.heco_top.specs.declared.product.Product.{Product}
 use Rattle.heco_top.specs.Calls.{done, failed, reading, writing}
 use Rattle.heco_top.specs.Commands.{job_of}
-use Rattle.heco_top.specs.Jobs.{Job, Read, Give}
+use Rattle.heco_top.specs.Jobs.{Job, Read, Judge, Give}
 use Rattle.heco_top.specs.Words.{name_of}
 
 -- the bytes of each file that is there
@@ -47,6 +47,10 @@ module _ (words : List (List ℕ)) where
       ⊎ ((text : List ℕ) × ((file (name_of words which) ≡ Some text) ×
       ((((x : Thing) → Fits text x → ⊥) × ((r : Refusal) × (Refuses text r × ((result ≡ Err (Refused r)) × (calls' ≡ calls ++ done words (reading which) ∷ [])))))
       ⊎ ((x : Thing) × (Fits text x × Gathers (next x) file (calls ++ done words (reading which) ∷ []) calls' result))))))
+  Gathers (Judge Thing Fits Refuses next) file calls calls' result =
+      ((result ≡ Err Memory) × (calls' ≡ calls))
+      ⊎ ((((x : Thing) → Fits x → ⊥) × ((r : Refusal) × (Refuses r × ((result ≡ Err (Refused r)) × (calls' ≡ calls)))))
+      ⊎ ((x : Thing) × (Fits x × Gathers (next x) file calls calls' result)))
   Gathers (Give Allowed) file calls calls' result = (((p : Product) × (Allowed p × (result ≡ Ok p))) ⊎ (result ≡ Err Memory)) × (calls' ≡ calls)
 
   -- writing: the first fault stops it, earlier files hold their bytes and all others stand; then the text is printed

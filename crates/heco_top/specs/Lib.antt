@@ -1,7 +1,8 @@
 pub mod Words
-pub mod Texts
 pub mod Seeds
 pub mod CircuitFiles
+pub mod ExchangedFiles
+pub mod SourceFiles
 pub mod Jobs
 pub mod Commands
 pub mod Calls

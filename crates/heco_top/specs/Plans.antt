@@ -3,8 +3,10 @@ use Rattle.std.specs.Prelude.{◌≡◌, ◌⊎◌, ◌<◌, ℕ, true, List, []
 use Rattle.heco_outside.specs.Causes.{Rose}
 use Rattle.heco_outside.specs.declared.store.Call.{Call}
 use Rattle.heco_nums.specs.declared.shape.Values.{Values}
-use Rattle.heco_source.specs.Execution.{outputs_of}
-use Rattle.heco_source.specs.Sources.{Simple}
+use Rattle.heco_sources.specs.Inputs.{output_shapes, IsInput}
+use Rattle.heco_sources.specs.Sources.{IsSource}
+use Rattle.heco_syntax.specs.declared.tree.Source.{Source}
+use Rattle.heco_texts.specs.Outputs.{output_text}
 use Rattle.heco_top.specs.declared.command.Command.{Command}
 use Rattle.heco_top.specs.declared.command.Command.TheVariants.{Plain}
 use Rattle.heco_top.specs.declared.outcome.Outcome.{Outcome}
@@ -13,11 +15,11 @@ use Rattle.heco_top.specs.declared.outcome.Refusal.TheVariants.{Usage}
 use Rattle.heco_top.specs.declared.product.Planned.{Planned}
 use Rattle.heco_top.specs.declared.product.Product.{Product}
 use Rattle.heco_top.specs.Calls.{Step, reading, writing, done, failed}
-use Rattle.heco_top.specs.Commands.{Plan, plan_of, job_of, IsSource}
+use Rattle.heco_top.specs.Commands.{Plan, plan_of, job_of}
 use Rattle.heco_top.specs.Endings.{Files, SameFiles}
-use Rattle.heco_top.specs.Jobs.{Job, Read, Give}
+use Rattle.heco_top.specs.Jobs.{Job, Read, Judge, Give}
 use Rattle.heco_top.specs.Reads.{IsFault}
-use Rattle.heco_top.specs.Texts.{IsInput, text_of}
+use Rattle.heco_top.specs.SourceFiles.{AreOutputs}
 use Rattle.heco_top.specs.Words.{name_of}
 
 -- ---- causes, over whatever store and sink
@@ -102,16 +104,18 @@ Stands file file' out out' short short' Fine = Unit {0}
 -- ---- completeness
 
 module _ (words : List (List ℕ)) where
-  -- no refusal is due: each file that is there can be read as something
+  -- no refusal is due: each file that is there can be read as something, and something comes of what was read
   unfoldable pub IsClear : Job → Files → Type 0
   IsClear (Read which Thing Fits Refuses next) file =
       (text : List ℕ) → file (name_of words which) ≡ Some text → ((x : Thing) × Fits text x) × ((x : Thing) → Fits text x → IsClear (next x) file)
+  IsClear (Judge Thing Fits Refuses next) file = ((x : Thing) × Fits x) × ((x : Thing) → Fits x → IsClear (next x) file)
   IsClear (Give Allowed) file = Unit {0}
 
   -- the files that the job reads are there
   unfoldable pub HasFiles : Job → Files → Type 0
   HasFiles (Read which Thing Fits Refuses next) file =
       (text : List ℕ) × ((file (name_of words which) ≡ Some text) × ((x : Thing) → Fits text x → HasFiles (next x) file))
+  HasFiles (Judge Thing Fits Refuses next) file = (x : Thing) → Fits x → HasFiles (next x) file
   HasFiles (Give Allowed) file = Unit {0}
 
   abbrev pub ClearFor : Option Command → Files → Type 0
@@ -145,10 +149,10 @@ IsNoFault outcome = Unit {0}
 
 -- ---- what `plain` prints
 
--- whatever source and values the two files hold, this is the text of the outputs of their execution
+-- whatever source and values the two files hold, this is the text of the lists that the execution gives
 abbrev pub IsPlainText : List (List ℕ) → Files → List ℕ → Type 0
 IsPlainText words file printed =
-    (source input : List ℕ) (s : Simple) (v : Values) → file (name_of words 1) ≡ Some source → IsSource source s → file (name_of words 2) ≡ Some input → IsInput s.inputs input v → printed ≡ text_of s.outputs (outputs_of s v.rows)
+    (source input : List ℕ) (s : Source) (v out : Values) → file (name_of words 1) ≡ Some source → IsSource source s → file (name_of words 2) ≡ Some input → IsInput s input v → AreOutputs s v.rows out → printed ≡ output_text (output_shapes s) out.rows
 
 -- after Ok standard output grew by that text
 abbrev pub PrintsPlain : List (List ℕ) → Option Command → Files → List ℕ → List ℕ → Outcome → Type 0

@@ -3,16 +3,22 @@ use Rattle.std.specs.Prelude.{◌≡◌, ◌⊎◌, ℕ, List, [], ◌∷◌, �
 use Rattle.std.specs.Option.{option_map}
 use Rattle.heco_circuit.specs.declared.error.CirErr.{CirErr}
 use Rattle.heco_circuit.specs.declared.error.CirErr.TheVariants as circuit
+use Rattle.heco_key_files.specs.declared.error.FileErr.{FileErr}
+use Rattle.heco_key_files.specs.declared.error.FileErr.TheVariants as file
 use Rattle.heco_material.specs.declared.error.MatErr.{MatErr}
 use Rattle.heco_material.specs.declared.error.MatErr.TheVariants as material
 use Rattle.heco_outside.specs.Causes.{Rose}
 use Rattle.heco_outside.specs.declared.store.Call.{Call}
-use Rattle.heco_source.specs.declared.simple.SimpleErr.{SimpleErr}
-use Rattle.heco_source.specs.declared.simple.SimpleErr.TheVariants as source
+use Rattle.heco_execution.specs.declared.error.EvalErr.{EvalErr}
+use Rattle.heco_execution.specs.declared.error.EvalErr.TheVariants as execution
+use Rattle.heco_sources.specs.declared.source.SourceErr.{SourceErr}
+use Rattle.heco_sources.specs.declared.source.SourceErr.TheVariants as source
+use Rattle.heco_texts.specs.declared.error.InputErr.{InputErr}
+use Rattle.heco_texts.specs.declared.error.InputErr.TheVariants as input
 use Rattle.heco_top.specs.declared.outcome.Outcome.{Outcome}
 use Rattle.heco_top.specs.declared.outcome.Outcome.TheVariants.{Ok as Fine, Refused, ReadFault, WriteFault, Memory}
 use Rattle.heco_top.specs.declared.outcome.Refusal.{Refusal}
-use Rattle.heco_top.specs.declared.outcome.Refusal.TheVariants.{Usage, At, Length, Bounds, Malformed, Noisy}
+use Rattle.heco_top.specs.declared.outcome.Refusal.TheVariants.{Usage, SourceLong, At, InputLong, InputAt, InputMissing, Length, Bounds, Malformed, Noisy, WrongPreset, Count}
 use Rattle.heco_top.specs.declared.product.Product.{Product}
 use Rattle.heco_top.specs.Calls.{done, failed, reading}
 use Rattle.heco_top.specs.Endings.{Files}
@@ -35,12 +41,16 @@ module _ (words : List (List ℕ)) (which : ℕ) where
   ReadsThing Fits Refuses file calls calls' (Err Memory) = (calls' ≡ calls) ⊎ (calls' ≡ calls ++ done words (reading which) ∷ [])
   ReadsThing Fits Refuses file calls calls' (Err outcome) = ⊥
 
+-- this thing came, or it is refused as none may come, or memory ran out
+abbrev pub Settles : {Thing : Type 0} → (Thing → Type 0) → (Refusal → Type 0) → Result Thing Outcome → Type 0
+Settles Fits Refuses (Ok x) = Fits x
+Settles {Thing} Fits Refuses (Err (Refused r)) = ((x : Thing) → Fits x → ⊥) × Refuses r
+Settles Fits Refuses (Err Memory) = Unit {0}
+Settles Fits Refuses (Err outcome) = ⊥
+
 -- the bytes are read as this thing, or refused, or memory ran out
 abbrev pub Judges : {Thing : Type 0} → (List ℕ → Thing → Type 0) → (List ℕ → Refusal → Type 0) → List ℕ → Result Thing Outcome → Type 0
-Judges Fits Refuses text (Ok x) = Fits text x
-Judges {Thing} Fits Refuses text (Err (Refused r)) = ((x : Thing) → Fits text x → ⊥) × Refuses text r
-Judges Fits Refuses text (Err Memory) = Unit {0}
-Judges Fits Refuses text (Err outcome) = ⊥
+Judges Fits Refuses text result = Settles (Fits text) (Refuses text) result
 
 -- one of these products, or want of memory
 abbrev pub Gives : (Product → Type 0) → Result Product Outcome → Type 0
@@ -57,9 +67,22 @@ IsReadCause which before now Fine = ⊥
 IsReadCause which before now outcome = Unit {0}
 
 -- what an error of a source is answered with
-abbrev pub answer_of : SimpleErr → Outcome
-answer_of (source.At rule at) = Refused (At rule at)
-answer_of source.Memory = Memory
+abbrev pub source_answer : SourceErr → Outcome
+source_answer source.SourceLong = Refused SourceLong
+source_answer (source.At rule at) = Refused (At rule at)
+source_answer source.Memory = Memory
+
+-- and of a text of inputs
+abbrev pub text_answer : InputErr → Outcome
+text_answer input.InputLong = Refused InputLong
+text_answer (input.At rule line) = Refused (InputAt rule line)
+text_answer (input.InputMissing which) = Refused (InputMissing which)
+text_answer input.Memory = Memory
+
+-- and of an execution
+abbrev pub execution_answer : EvalErr → Outcome
+execution_answer (execution.At rule at) = Refused (At rule at)
+execution_answer execution.Memory = Memory
 
 -- and of the circuit in the first file word
 abbrev pub circuit_answer : CirErr → Outcome
@@ -72,6 +95,19 @@ abbrev pub material_answer : MatErr → Outcome
 material_answer (material.Length at) = Refused (Length 2 at)
 material_answer (material.Bounds at) = Refused (Bounds 2 at)
 material_answer material.Memory = Memory
+
+-- and of the encryption material in the third
+abbrev pub encryptions_answer : MatErr → Outcome
+encryptions_answer (material.Length at) = Refused (Length 3 at)
+encryptions_answer (material.Bounds at) = Refused (Bounds 3 at)
+encryptions_answer material.Memory = Memory
+
+-- and of a file of keys or ciphertexts in this word
+abbrev pub file_answer : ℕ → FileErr → Outcome
+file_answer k (file.Malformed at) = Refused (Malformed k at)
+file_answer k (file.WrongPreset kept found) = Refused (WrongPreset k kept found)
+file_answer k (file.Count want found) = Refused (Count k want found)
+file_answer k file.Memory = Memory
 
 -- what was read, seen by view
 abbrev pub seen : {X Y : Type 0} → (X → Y) → Result X Outcome → Result Y Outcome

@@ -1,5 +1,6 @@
-ghost use Rattle.std.specs.Prelude.{◌≡◌, ◌≤◌, None, IsTrue, IfErr};
+ghost use Rattle.std.specs.Prelude.{◌≡◌, ◌≤◌, None, IsTrue, IfErr, length};
 ghost use Rattle.heco_circuit.specs.CircuitFile.{Spells};
+ghost use Rattle.heco_products.specs.PresetRows.{preset_of};
 ghost use Rattle.heco_outside.specs.Causes.{Undisturbed};
 ghost use Rattle.heco_top.specs.CircuitFiles.{IsCircuitRefusal};
 ghost use Rattle.heco_top.specs.Endings.{SameFiles};
@@ -9,6 +10,7 @@ ghost use Rattle.heco_top.specs.Words.{texts, name_of};
 use crate::reading::read_bytes;
 use crate::{Outcome, Refusal};
 use heco_circuit::{CirErr, Circuit, read};
+use heco_nums::Preset;
 use heco_outside::Store;
 use std::alloc::Global;
 
@@ -36,6 +38,22 @@ fn judge_circuit(alloc: Global, text: &[u8]) -> Result<Circuit, Outcome>
         Ok(circuit) => Ok(circuit),
         Err(error) => Err(answer(error)),
     }
+}
+
+/// The circuit's preset.
+pub fn preset_of(circuit: &Circuit) -> &Preset
+    ensures number { result.now.id ≡ circuit.now.preset }
+    ensures whole { result.now ≡ preset_of circuit.now.preset }
+{
+    circuit.preset()
+}
+
+/// How many inputs the circuit has.
+pub fn input_count(circuit: &Circuit) -> u32
+    ensures { result ≡ length circuit.now.inputs }
+{
+    let _ = circuit.preset();
+    circuit.inputs().len() as u32
 }
 
 /// The circuit that the first file word holds.

@@ -6,6 +6,7 @@ ghost use Rattle.heco_material.specs.KeyLists.{lists_of, key_count, IsKeyMateria
 ghost use Rattle.heco_top.specs.CircuitFiles.{key_material_file, encryption_material_file, secret_file, evaluation_file, made_key};
 ghost use Rattle.heco_top.specs.Commands.{Prints, Stores, two_files};
 
+use crate::circuit_file::input_count;
 use crate::product::{Planned, Product};
 use heco_circuit::{Circuit, needs};
 use heco_key_files::{write_eval, write_secret};
@@ -58,8 +59,7 @@ fn encryption_material(alloc: Global, circuit: &Circuit, seed: u64) -> Result<By
     ensures { IfOk result (λ bytes. bytes ≡ encryption_material_file circuit.now seed) }
 {
     let preset = circuit.preset();
-    let count = circuit.inputs().len() as u32;
-    let words = draw_enc(alloc, preset, count, seed)?;
+    let words = draw_enc(alloc, preset, input_count(circuit), seed)?;
     write_enc(alloc, &words)
 }
 

@@ -11,9 +11,11 @@ ghost use Rattle.heco_top.specs.Words.{texts};
 ghost use Rattle.heco_top.specs.declared.command.Task.TheVariants.{Keys};
 
 use crate::Outcome;
-use crate::circuit_file::read_circuit;
+use crate::circuit_file::{preset_of, read_circuit};
 use crate::circuit_products::{draw_product, keys_product, show_product};
 use crate::command::Task;
+use crate::decrypt_task::gather_decrypt;
+use crate::encrypt_task::gather_encrypt;
 use crate::material_file::read_material;
 use crate::product::Product;
 use heco_circuit::Circuit;
@@ -87,13 +89,16 @@ fn gather_task<S: Store>(
     ensures planned { IfOk result (FitsPlan (task_plan task)) }
     ensures files { IsTrue S.tells → SameFiles (S.file store.old) (S.file store.new) }
     ensures told { IsTrue S.tells → Gathers (texts words.now) (task_job task circuit.now) (S.file store.old) (S.calls store.old) (S.calls store.new) result }
-    ensures steady { S.steady store.old → HasFiles (texts words.now) (task_job task circuit.now) (S.file store.old)
+    ensures steady { IsTrue S.tells → S.steady store.old → HasFiles (texts words.now) (task_job task circuit.now) (S.file store.old)
         → Quietly (S.steady store.new) (S.faults store.old) (S.faults store.new) result }
 {
+    let preset = preset_of(circuit);
     match task {
         Task::Show => show_task(alloc, circuit),
         Task::Draw { seed } => draw_task(alloc, circuit, seed),
         Task::Keys => gather_keys(alloc, circuit, words, store),
+        Task::Encrypt => gather_encrypt(alloc, preset, circuit, words, store),
+        Task::Decrypt => gather_decrypt(alloc, preset, circuit, words, store),
     }
 }
 

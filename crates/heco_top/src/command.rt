@@ -2,7 +2,7 @@ ghost use Rattle.std.specs.Prelude.{◌≡◌};
 ghost use Rattle.std.specs.List.{list_any};
 ghost use Rattle.std.specs.Str.{bytes_eq};
 ghost use Rattle.heco_top.specs.Words.{texts, name_of, are_distinct};
-ghost use Rattle.heco_top.specs.Commands.{command_of, plain_of, show_of, draw_of, keys_of};
+ghost use Rattle.heco_top.specs.Commands.{command_of, plain_of, show_of, draw_of, keys_of, encrypt_of, decrypt_of};
 
 use crate::seed::seed_of;
 
@@ -12,6 +12,8 @@ pub enum Task {
     Show,
     Draw { seed: u64 },
     Keys,
+    Encrypt,
+    Decrypt,
 }
 
 /// What the words ask for.
@@ -99,6 +101,34 @@ fn keys_of(words: &[String]) -> Option<Command>
     }
 }
 
+// encrypt CIR EVA EMAT IN CTS
+fn encrypt_of(words: &[String]) -> Option<Command>
+    ensures { result ≡ encrypt_of (texts words.now) }
+{
+    let [_, _, _, _, _] = words else {
+        return None;
+    };
+    if are_distinct(words) {
+        Some(Command::Circuit(Task::Encrypt))
+    } else {
+        None
+    }
+}
+
+// decrypt CIR SEC RES
+fn decrypt_of(words: &[String]) -> Option<Command>
+    ensures { result ≡ decrypt_of (texts words.now) }
+{
+    let [_, _, _] = words else {
+        return None;
+    };
+    if are_distinct(words) {
+        Some(Command::Circuit(Task::Decrypt))
+    } else {
+        None
+    }
+}
+
 /// The command of the words. The file words of a command differ.
 pub fn command_of(words: &[String]) -> Option<Command>
     ensures { result ≡ command_of (texts words.now) }
@@ -118,6 +148,12 @@ pub fn command_of(words: &[String]) -> Option<Command>
     }
     if command == "keys" {
         return keys_of(rest);
+    }
+    if command == "encrypt" {
+        return encrypt_of(rest);
+    }
+    if command == "decrypt" {
+        return decrypt_of(rest);
     }
     None
 }

@@ -8,18 +8,18 @@ ghost use Rattle.heco_top.specs.declared.command.Command.TheVariants.{Plain};
 use crate::Outcome;
 use crate::circuit_tasks::gather_circuit;
 use crate::command::Command;
-use crate::inputs::read_inputs;
-use crate::plain::plain_product;
+use crate::inputs::read_values;
+use crate::outputs::gather_outputs;
 use crate::product::Product;
 use crate::source::read_source;
 use heco_outside::Store;
-use heco_source::Simple;
+use heco_types::Typed;
 use std::alloc::Global;
 
 // The rest of `plain` behind its source.
 fn gather_values<S: Store>(
     alloc: Global,
-    simple: &Simple,
+    typed: &Typed,
     words: &[String],
     store: &mut S,
 ) -> Result<Product, Outcome>
@@ -27,15 +27,12 @@ fn gather_values<S: Store>(
     ensures cause { IfErr result (IsGatherCause (plan_of Plain) (S.faults store.old) (S.faults store.new)) }
     ensures planned { IfOk result (FitsPlan (plan_of Plain)) }
     ensures files { IsTrue S.tells → SameFiles (S.file store.old) (S.file store.new) }
-    ensures told { IsTrue S.tells → Gathers (texts words.now) (values_job simple.now) (S.file store.old) (S.calls store.old) (S.calls store.new) result }
-    ensures steady { S.steady store.old → HasFiles (texts words.now) (values_job simple.now) (S.file store.old)
+    ensures told { IsTrue S.tells → Gathers (texts words.now) (values_job typed.now) (S.file store.old) (S.calls store.old) (S.calls store.new) result }
+    ensures steady { S.steady store.old → HasFiles (texts words.now) (values_job typed.now) (S.file store.old)
         → Quietly (S.steady store.new) (S.faults store.old) (S.faults store.new) result }
 {
-    let inputs = read_inputs(alloc, simple, words, store)?;
-    match plain_product(alloc, simple, &inputs) {
-        Ok(product) => Ok(product),
-        Err(_) => Err(Outcome::Memory),
-    }
+    let inputs = read_values(alloc, typed, words, store)?;
+    gather_outputs(alloc, typed, &inputs)
 }
 
 // All that `plain` gives, or why it ends before.
@@ -52,8 +49,8 @@ fn gather_plain<S: Store>(
     ensures steady { IsTrue S.tells → S.steady store.old → HasFiles (texts words.now) plain_job (S.file store.old)
         → Quietly (S.steady store.new) (S.faults store.old) (S.faults store.new) result }
 {
-    let simple = read_source(alloc, words, store)?;
-    gather_values(alloc, &simple, words, store)
+    let typed = read_source(alloc, words, store)?;
+    gather_values(alloc, &typed, words, store)
 }
 
 /// All that the command gives, or why it ends before. A later command adds its arm.

@@ -1,20 +1,51 @@
 use crate::{Outcome, heco};
-use heco_nums::List;
+use heco_nums::{Bytes, List};
 use heco_outside::{MemSink, MemStore};
 use std::alloc::{AllocError, Global};
 use std::test::Fail;
 
-const PLAIN: &str = "plain f.he f.in";
+// What `plain f.he f.in` answers: the source, the text of its inputs, what is printed, the line on the error stream and
+// the status, with $ for LF and ^ for CR. The first rows are texts of the strict form that inputs had before: each is
+// accepted with the same meaning.
+const FILES: &str =
+    "params p8; fn f(in x, in z, out y) { y = x*z + x; y = y*y; }|x = 20$z = 30$|y = 185$||0
+params p8; fn f(in x, in z, out y) { y = x*z + x; y = y*y; }|x = 0$z = 256$|y = 0$||0
+params p8; fn f(in x, out y) { y = x; }|x = 256$|y = 256$||0
+params p8; fn f(in x) {}|x = 1$|||0
+params p8; fn f() {}||||0
+params p8; fn f(in x, in z, out y) { y = x*z + x; y = y*y; }|# values$ z = 030^$$~x=20|y = 185$||0
+params p8; fn f(in a[8], in b[8], out s) { for i in 0..8 { s += a[i]*b[i]; } }|a = 1 2 3 4 5 6 7 8$b = 1 1 1 1 1 1 1 1|s = 36$||0
+params p8; fn f(in x, out y[2], out z) { y[1] = x - 3; z = -x; }|x = 1|y = 0 255$z = 256$||0
+params p8; fn f(in x, out y) { y = x ? x; }|||f.he:1:38: BadByte$|1
+params p8; fn f(in x, out y) { y = x }|||f.he:1:38: Syntax$|1
+params p9; fn f(in x, out y) { y = x; }|||f.he:1:8: UnknownParams$|1
+params p8; fn f(in x, out y) { y = w; }|bad||f.he:1:36: UnknownName$|1
+params p8; fn f(in x, out y) { x = y; }|||f.he:1:32: NotAssignable$|1
+params p8; fn f(in x, out y) { secret x; }|||f.he:1:39: Redeclared$|1
+params p8; fn f(in x[9], out y) {}|||f.he:1:22: Length$|1
+params p8;$fn f(in a[8], out y) {$  for i in 0..9 { y +=  a[i]; } }|a = 1 1 1 1 1 1 1 1||f.he:3:25: IndexRange$|1
+params p8;$fn f(in a[8], out y) {$  for i in 0..9 { y +=  a[i]; } }|a = 1 1 1 1 1 1 1||f.in:1: InputCount$|3
+params p8; fn f(in x, out y) { y = 65536*65536*x; }|x = 1||f.he:1:41: PublicRange$|1
+params p8; fn f(in x, out y) { y = x; }|x = 257$||f.in:1: InputValue$|3
+params p8; fn f(in x, out y) { y = x; }|$x = 1$x = 1||f.in:3: InputName$|3
+params p8; fn f(in x, out y) { y = x; }|x = +1||f.in:1: InputText$|3
+params p8; fn f(in x, in z) {}|x = 1||f.in: InputMissing 1$|3";
 
-const SQUARED: &str = "params p8; fn f(in x, in z, out y) { y = x*z + x; y = y*y; }";
+// The words, which call of the store and which of standard output fails (0 for none), the line on the error stream and
+// the status, over two files that are there.
+const WORDS: &str = "|0|0|usage: heco COMMAND WORDS$|2
+plain|0|0|usage: heco COMMAND WORDS$|2
+plain f.he|0|0|usage: heco COMMAND WORDS$|2
+plain f.he f.in f.in|0|0|usage: heco COMMAND WORDS$|2
+plain f.he f.he|0|0|usage: heco COMMAND WORDS$|2
+show f.he f.in|0|0|usage: heco COMMAND WORDS$|2
+plain no.he f.in|0|0|no.he: read fault$|4
+plain f.he no.in|0|0|no.in: read fault$|4
+plain f.he f.in|1|0|f.he: read fault$|4
+plain f.he f.in|2|0|f.in: read fault$|4
+plain f.he f.in|0|1|standard output: write fault$|4";
 
-const COPIED: &str = "params p8; fn f(in x, out y) { y = x; }";
-
-const NOTHING: &str = "params p8; fn f(in x) {}";
-
-const USAGE: &str = "usage: heco COMMAND WORDS\n";
-
-// The words, the files `f.he` and `f.in`, the failing calls of the store and of standard output (0 for none), and what comes of them.
+// A row's words, files and failing calls, and what comes of them.
 #[derive(Drop)]
 struct Row<'a> {
     words: &'a str,
@@ -23,49 +54,54 @@ struct Row<'a> {
     fails: (u64, u64),
     printed: &'a str,
     line: &'a str,
-    status: u8,
+    status: &'a str,
 }
 
-fn judged<'a>(
-    source: &'a str,
-    input: &'a str,
-    printed: &'a str,
-    line: &'a str,
-    status: u8,
-) -> Row<'a> {
-    Row {
-        words: PLAIN,
-        source,
-        input,
+fn row_of_files(row: &str) -> Result<Row<'_>, Fail> {
+    let mut fields = row.split('|');
+    Ok(Row {
+        words: "plain f.he f.in",
+        source: fields.next().ok_or("no source")?,
+        input: fields.next().ok_or("no input")?,
         fails: (0, 0),
-        printed,
-        line,
-        status,
+        printed: fields.next().ok_or("no print")?,
+        line: fields.next().ok_or("no line")?,
+        status: fields.next().ok_or("no status")?,
+    })
+}
+
+fn row_of_words(row: &str) -> Result<Row<'_>, Fail> {
+    let mut fields = row.split('|');
+    Ok(Row {
+        words: fields.next().ok_or("no words")?,
+        source: "params p8; fn f(in x, out y) { y = x; }",
+        input: "x = 1",
+        fails: (
+            fields.next().ok_or("no call")?.parse::<u64>()?,
+            fields.next().ok_or("no call")?.parse::<u64>()?,
+        ),
+        printed: "",
+        line: fields.next().ok_or("no line")?,
+        status: fields.next().ok_or("no status")?,
+    })
+}
+
+// The byte that a byte of a row stands for.
+fn meant(c: u8) -> u8 {
+    match c {
+        b'$' => b'\n',
+        b'^' => b'\r',
+        b'~' => b'\t',
+        _ => c,
     }
 }
 
-fn usage(words: &str) -> Row<'_> {
-    Row {
-        words,
-        source: SQUARED,
-        input: "x = 20\nz = 30\n",
-        fails: (0, 0),
-        printed: "",
-        line: USAGE,
-        status: 2,
+fn text_of(alloc: Global, field: &str) -> Result<Bytes, Fail> {
+    let mut text = Bytes::new(alloc);
+    for c in field.as_bytes() {
+        text.push(meant(*c))?;
     }
-}
-
-fn fault<'a>(words: &'a str, fails: (u64, u64), line: &'a str) -> Row<'a> {
-    Row {
-        words,
-        source: SQUARED,
-        input: "x = 20\nz = 30\n",
-        fails,
-        printed: "",
-        line,
-        status: 4,
-    }
+    Ok(text)
 }
 
 fn split(alloc: Global, text: &str) -> Result<Vec<String>, AllocError> {
@@ -91,57 +127,44 @@ fn run(
     err: &mut MemSink,
 ) -> Result<Outcome, Fail> {
     let mut store = MemStore::new(alloc, one(alloc, row.fails.0)?);
-    store.put("f.he", row.source.as_bytes())?;
-    store.put("f.in", row.input.as_bytes())?;
+    store.put("f.he", text_of(alloc, row.source)?.as_slice())?;
+    store.put("f.in", text_of(alloc, row.input)?.as_slice())?;
     let words = split(alloc, row.words)?;
     Ok(heco(alloc, words.as_slice(), &mut store, out, err))
 }
 
+// Whether the row is answered as it says, and a failing error stream changes nothing but the line.
+fn is_answered(alloc: Global, row: &Row<'_>) -> Result<bool, Fail> {
+    let mut out = MemSink::new(alloc, one(alloc, row.fails.1)?);
+    let mut err = MemSink::new(alloc, List::new(alloc));
+    let outcome = run(alloc, row, &mut out, &mut err)?;
+    let mut again = MemSink::new(alloc, one(alloc, row.fails.1)?);
+    let mut silent = MemSink::new(alloc, one(alloc, 1)?);
+    let same = run(alloc, row, &mut again, &mut silent)? == outcome;
+    let printed = text_of(alloc, row.printed)?;
+    let line = text_of(alloc, row.line)?;
+    Ok(
+        same && silent.bytes().is_empty()
+            && out.bytes() == printed.as_slice()
+            && err.bytes() == line.as_slice()
+            && u64::from(outcome.status()) == row.status.parse::<u64>()?,
+    )
+}
+
 #[test]
-fn rows_of_plain(rt: HostRuntime) -> Result<(), Fail> {
-    let alloc = rt.alloc();
-    let rows = [
-        judged(SQUARED, "x = 20\nz = 30\n", "y = 185\n", "", 0),
-        judged(NOTHING, "x = 1\n", "", "", 0),
-        judged(COPIED, "x = 256\n", "y = 256\n", "", 0),
-        judged(
-            "params p8; fn f(in x, out y) { y = x - x; }",
-            "x = 1\n",
-            "",
-            "f.he:1:38: NotBuilt\n",
-            1,
-        ),
-        judged(COPIED, "x = 257\n", "", "f.in:1: InputText\n", 3),
-        judged(NOTHING, "", "", "f.in:1: InputText\n", 3),
-        judged(COPIED, "x = 01\n", "", "f.in:1: InputText\n", 3),
-        judged(COPIED, "x = 1", "", "f.in:1: InputText\n", 3),
-        judged(COPIED, "x = 1\r\n", "", "f.in:1: InputText\n", 3),
-        judged(COPIED, "x = +1\n", "", "f.in:1: InputText\n", 3),
-        judged(COPIED, "x = 1\n\n", "", "f.in:2: InputText\n", 3),
-        judged(SQUARED, "x = 20\ny = 30\n", "", "f.in:2: InputText\n", 3),
-        usage(""),
-        usage("plain"),
-        usage("plain f.he"),
-        usage("plain f.he f.in f.in"),
-        usage("plain f.he f.he"),
-        usage("show f.he f.in"),
-        fault("plain no.he f.in", (0, 0), "no.he: read fault\n"),
-        fault("plain f.he no.in", (0, 0), "no.in: read fault\n"),
-        fault(PLAIN, (1, 0), "f.he: read fault\n"),
-        fault(PLAIN, (2, 0), "f.in: read fault\n"),
-        fault(PLAIN, (0, 1), "standard output: write fault\n"),
-    ];
-    for row in &rows {
-        let mut out = MemSink::new(alloc, one(alloc, row.fails.1)?);
-        let mut err = MemSink::new(alloc, List::new(alloc));
-        let outcome = run(alloc, row, &mut out, &mut err)?;
-        assert_eq!(rt; out.bytes(), row.printed.as_bytes());
-        assert_eq!(rt; err.bytes(), row.line.as_bytes());
-        assert_eq!(rt; outcome.status(), row.status);
-        let mut out = MemSink::new(alloc, one(alloc, row.fails.1)?);
-        let mut silent = MemSink::new(alloc, one(alloc, 1)?);
-        assert_eq!(rt; run(alloc, row, &mut out, &mut silent)?, outcome);
-        assert_eq!(rt; silent.bytes(), b"".as_slice());
+fn each_source_and_text_has_its_answer(rt: HostRuntime) -> Result<(), Fail> {
+    for line in FILES.lines() {
+        let row = row_of_files(line)?;
+        assert!(rt; is_answered(rt.alloc(), &row)?, "{line}");
+    }
+    Ok(())
+}
+
+#[test]
+fn words_and_faults_have_their_answers(rt: HostRuntime) -> Result<(), Fail> {
+    for line in WORDS.lines() {
+        let row = row_of_words(line)?;
+        assert!(rt; is_answered(rt.alloc(), &row)?, "{line}");
     }
     Ok(())
 }

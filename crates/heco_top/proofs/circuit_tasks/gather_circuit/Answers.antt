@@ -39,4 +39,4 @@ returns-clause-steady g c = λ told steady has.
     let first = read_quietly (texts c.args.words.now) 1 Spells IsCircuitRefusal (task_job c.args.task) (g.S.Store.file c.args.store.now) (g.S.Store.steady c.read_circuit.new.store) (g.S.Store.faults c.args.store.now) (g.S.Store.faults c.read_circuit.new.store) (Ok c.in_ok-circuit.circuit) has (c.in_ok-circuit.ensures.steady steady) in
     let more = has_next (texts c.args.words.now) 1 Spells IsCircuitRefusal (task_job c.args.task) (g.S.Store.file c.args.store.now) (g.S.Store.calls c.args.store.now) (g.S.Store.calls c.read_circuit.new.store) c.in_ok-circuit.circuit has (c.in_ok-circuit.ensures.told told) in
     quiet_then (g.S.Store.steady c.gather_task.new.store) (g.S.Store.faults c.args.store.now) (g.S.Store.faults c.read_circuit.new.store) (g.S.Store.faults c.gather_task.new.store) c.gather_task.result first.same
-    (c.gather_task.ensures.steady first.stays (subst (λ f. HasFiles (texts c.args.words.now) (task_job c.args.task c.in_ok-circuit.circuit) f) (sym files) more))
+    (c.gather_task.ensures.steady told first.stays (subst (λ f. HasFiles (texts c.args.words.now) (task_job c.args.task c.in_ok-circuit.circuit) f) (sym files) more))

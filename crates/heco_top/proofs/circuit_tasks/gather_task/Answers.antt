@@ -1,5 +1,5 @@
 use Rattle.std.proofs.Common.{sym, subst}
-use Rattle.heco_top.specs.Commands.{task_job}
+use Rattle.heco_top.specs.Commands.{task_job, evaluation_job, secret_job}
 use Rattle.heco_top.specs.Endings.{Gathers}
 use Rattle.heco_top.specs.Plans.{HasFiles}
 use Rattle.heco_top.specs.Words.{texts}
@@ -26,5 +26,29 @@ returns-in-Keys-clause-told g c = λ told.
 
 pub returns-in-Keys-clause-steady : goal.returns-in-Keys-clause-steady
 unfolding task_job
-returns-in-Keys-clause-steady g c = λ steady has.
+returns-in-Keys-clause-steady g c = λ told steady has.
     c.gather_keys.ensures.steady steady (subst (λ task. HasFiles (texts c.args.words.now) (task_job task c.args.circuit.now) (g.S.Store.file c.args.store.now)) c.in-Keys.is has)
+
+pub returns-in-Encrypt-clause-told : goal.returns-in-Encrypt-clause-told
+unfolding task_job
+returns-in-Encrypt-clause-told g c = λ told.
+    subst (λ task. Gathers (texts c.args.words.now) (task_job task c.args.circuit.now) (g.S.Store.file c.args.store.now) (g.S.Store.calls c.args.store.now) (g.S.Store.calls c.gather_encrypt.new.store) c.gather_encrypt.result) (sym c.in-Encrypt.is)
+    (subst (λ p. Gathers (texts c.args.words.now) (evaluation_job p c.args.circuit.now) (g.S.Store.file c.args.store.now) (g.S.Store.calls c.args.store.now) (g.S.Store.calls c.gather_encrypt.new.store) c.gather_encrypt.result) c.preset_of-preset.ensures.whole (c.gather_encrypt.ensures.told told))
+
+pub returns-in-Encrypt-clause-steady : goal.returns-in-Encrypt-clause-steady
+unfolding task_job
+returns-in-Encrypt-clause-steady g c = λ told steady has.
+    c.gather_encrypt.ensures.steady told steady (subst (λ p. HasFiles (texts c.args.words.now) (evaluation_job p c.args.circuit.now) (g.S.Store.file c.args.store.now)) (sym c.preset_of-preset.ensures.whole)
+    (subst (λ task. HasFiles (texts c.args.words.now) (task_job task c.args.circuit.now) (g.S.Store.file c.args.store.now)) c.in-Encrypt.is has))
+
+pub returns-in-Decrypt-clause-told : goal.returns-in-Decrypt-clause-told
+unfolding task_job
+returns-in-Decrypt-clause-told g c = λ told.
+    subst (λ task. Gathers (texts c.args.words.now) (task_job task c.args.circuit.now) (g.S.Store.file c.args.store.now) (g.S.Store.calls c.args.store.now) (g.S.Store.calls c.gather_decrypt.new.store) c.gather_decrypt.result) (sym c.in-Decrypt.is)
+    (subst (λ p. Gathers (texts c.args.words.now) (secret_job p c.args.circuit.now) (g.S.Store.file c.args.store.now) (g.S.Store.calls c.args.store.now) (g.S.Store.calls c.gather_decrypt.new.store) c.gather_decrypt.result) c.preset_of-preset.ensures.whole (c.gather_decrypt.ensures.told told))
+
+pub returns-in-Decrypt-clause-steady : goal.returns-in-Decrypt-clause-steady
+unfolding task_job
+returns-in-Decrypt-clause-steady g c = λ told steady has.
+    c.gather_decrypt.ensures.steady told steady (subst (λ p. HasFiles (texts c.args.words.now) (secret_job p c.args.circuit.now) (g.S.Store.file c.args.store.now)) (sym c.preset_of-preset.ensures.whole)
+    (subst (λ task. HasFiles (texts c.args.words.now) (task_job task c.args.circuit.now) (g.S.Store.file c.args.store.now)) c.in-Decrypt.is has))

@@ -1,7 +1,7 @@
 use Rattle.heco_top.specs.Commands.{command_of}
 use Rattle.heco_top.specs.Words.{texts}
 use Rattle.heco_top.proofs.DoneLaws.{ends_done_as_owed}
-use Rattle.heco_top.proofs.PlainLaws.{ends_printed}
+use Rattle.heco_top.proofs.PlainLaws.{done_printed}
 use Rattle.heco_top.proofs.TopLaws.{ends_as_planned, ends_standing, ends_done, ready_clear, no_fault}
 use Rattle.heco_top.proofs.top.heco.Goals as goal
 
@@ -9,13 +9,13 @@ pub returns-clause-planned : goal.returns-clause-planned
 returns-clause-planned g c = λ told told_out.
     ends_as_planned (texts c.args.words.now) _ _ _ _ _ _ _ _ (command_of (texts c.args.words.now)) c.answer-outcome.result (c.answer-outcome.ensures.told told told_out)
 
-pub returns-clause-plain : goal.returns-clause-plain
-returns-clause-plain g c = λ told told_out.
-    ends_printed (texts c.args.words.now) _ _ _ _ _ _ _ _ (command_of (texts c.args.words.now)) c.answer-outcome.result (c.answer-outcome.ensures.told told told_out)
-
 pub returns-clause-done : goal.returns-clause-done
 returns-clause-done g c = λ told told_out.
     ends_done_as_owed (texts c.args.words.now) _ _ _ _ _ _ _ _ (command_of (texts c.args.words.now)) c.answer-outcome.result (c.answer-outcome.ensures.told told told_out)
+
+pub returns-clause-plain : goal.returns-clause-plain
+returns-clause-plain g c = λ told told_out.
+    done_printed (texts c.args.words.now) _ _ _ _ (command_of (texts c.args.words.now)) c.answer-outcome.result (returns-clause-done g c told told_out)
 
 pub returns-clause-stands : goal.returns-clause-stands
 returns-clause-stands g c = λ told told_out.
