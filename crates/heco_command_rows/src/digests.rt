@@ -42,7 +42,7 @@ fn digest(alloc: Global, bytes: &[u8]) -> Result<String, Fail> {
 }
 
 // Whether a file has the length and the digest of its row.
-fn holds(alloc: Global, store: &MemStore, row: &str) -> Result<bool, Fail> {
+pub fn holds(alloc: Global, store: &MemStore, row: &str) -> Result<bool, Fail> {
     let mut words = row.split(' ');
     let file = store.file(words.next().ok_or("no name")?).ok_or("no file")?;
     let length = words.next().ok_or("no length")?.parse::<usize>()?;
@@ -62,7 +62,7 @@ fn drawn_files_and_keys_have_their_digests(rt: HostRuntime) -> Result<(), Fail> 
 }
 
 // The material of `dot` with a byte replaced, and so many bytes of it, or one more.
-fn damaged(
+pub fn damaged(
     alloc: Global,
     file: &[u8],
     at: usize,
@@ -91,7 +91,7 @@ const DAMAGED: &str = "144 3 16864 0 k: Bounds at 144
 99999 0 16864 3 s: write fault
 99999 0 16864 4 v: write fault";
 
-fn number(field: Option<&str>) -> Result<u64, Fail> {
+pub fn number(field: Option<&str>) -> Result<u64, Fail> {
     Ok(field.ok_or("no number")?.parse::<u64>()?)
 }
 

@@ -2,8 +2,12 @@
 #![tactic(auto)]
 
 #[cfg(test)]
+mod chain;
+#[cfg(test)]
 mod digests;
 #[cfg(test)]
 mod files;
 #[cfg(test)]
 mod rows;
+#[cfg(test)]
+mod steps;

@@ -1,0 +1,9 @@
+//! Sources and input texts, and what the command `plain` prints or answers.
+#![tactic(auto)]
+
+#[cfg(test)]
+mod rows;
+#[cfg(test)]
+mod run;
+#[cfg(test)]
+mod text;
