@@ -46,6 +46,7 @@ const ROWS: &str =
 0|0|draw copy 7 k e;keys copy k s v;put i x = 5;put i x = 257;cut e 47;encrypt copy v e i c;absent c|3|e: Length at 47|
 0|0|draw copy 7 k e;keys copy k s v;put i x = 5;set e 0 02;set v 4 02;encrypt copy v e i c;absent c|3|v: Malformed at 4|
 0|0|draw copy 7 k e;keys copy k s v;put i x = 5;zeros v 0;cut copy 0;encrypt copy v e i c;absent c|3|copy: Malformed at 0|
+0|0|set copy 18 01;show copy|3|copy: Malformed at 19|
 0|0|chain;cut copy 34;decrypt copy s r|3|copy: Malformed at 33|
 0|0|chain;set s 0 00;decrypt copy s r|3|s: Malformed at 0|
 0|0|chain;set s 5 02;decrypt copy s r|3|s: WrongPreset want 1 found 2|
