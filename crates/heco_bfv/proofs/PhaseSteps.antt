@@ -67,3 +67,7 @@ decrypted_made p s c t n V M et en el v m =
 
 pub reduced_below : (t n : ℕ) (a : List ℤ) → 0 < t → All (λ x. x < t) (reduced t n a)
 reduced_below t n a p = λ k d i. rw (get_or_default (reduced t n a) k d 0 i) (reduced-lt t n a k p (omega (arith, i, length-reduced t n a)))
+
+pub decrypted_below : (p : Preset) (s : List ℤ) (c : List (List ℕ)) → All (λ x. x < p.t) (decrypted p s c)
+unfolding decrypted
+decrypted_below p s c = reduced_below p.t p.n _ (facts p).t_pos

@@ -96,7 +96,35 @@ fn round_all(t: u32, z: &[u64], out: &mut [u32])
     }
 }
 
-/// The N slots of the first row: the phase, each coefficient times t / q and rounded, and the slots of that.
+/// The decryption, into out.
+fn message_into(s: &Secret, c: &Ct, phase: &mut Poly, once: &mut Poly, twice: &mut Poly, out: &mut [u32])
+    requires c { IsCiphertext s.now.preset.n c.now }
+    requires phase { length phase.old ≡ s.now.preset.n }
+    requires once { length once.old ≡ s.now.preset.n }
+    requires twice { length twice.old ≡ s.now.preset.n }
+    requires out { length out.old ≡ s.now.preset.n }
+    ensures formula { out.new ≡ decrypted s.now.preset s.now.places c.now }
+    ensures phase { length phase.new ≡ s.now.preset.n }
+    ensures once { length once.new ≡ s.now.preset.n }
+    ensures twice { length twice.new ≡ s.now.preset.n }
+{
+    phase_into(c, s.as_slice(), phase, once, twice);
+    round_all(s.preset().t, phase.as_slice(), out);
+}
+
+/// The n coefficients: the phase, each coefficient times t / q and rounded.
+pub fn decrypt_poly(s: &Secret, c: &Ct, out: &mut [u32], scratch: &mut Scratch)
+    requires c { IsCiphertext s.now.preset.n c.now }
+    requires scratch { scratch.old.preset ≡ s.now.preset }
+    requires out { length out.old ≡ s.now.preset.n }
+    ensures scratch { scratch.new.preset ≡ scratch.old.preset }
+    ensures formula { out.new ≡ decrypted s.now.preset s.now.places c.now }
+    ensures right { (m : List ℕ) (E : ℕ) → row.IsQuiet E → noise s.now.preset s.now.places c.now m ≤ E → out.new ≡ reduced s.now.preset.t s.now.preset.n (wholes m) }
+{
+    message_into(s, c, &mut scratch.phase, &mut scratch.once, &mut scratch.twice, out);
+}
+
+/// The N slots of the first row of the decryption.
 pub fn decrypt(s: &Secret, table: &SlotTable, c: &Ct, out: &mut [u32], scratch: &mut Scratch)
     requires table { table.now.preset ≡ s.now.preset }
     requires c { IsCiphertext s.now.preset.n c.now }
@@ -106,16 +134,12 @@ pub fn decrypt(s: &Secret, table: &SlotTable, c: &Ct, out: &mut [u32], scratch: 
     ensures formula { out.new ≡ decoded s.now.preset (decrypted s.now.preset s.now.places c.now) }
     ensures right { (m : List ℕ) (E : ℕ) → row.IsQuiet E → noise s.now.preset s.now.places c.now m ≤ E → out.new ≡ decoded s.now.preset m }
 {
-    phase_into(
+    message_into(
+        s,
         c,
-        s.as_slice(),
         &mut scratch.phase,
         &mut scratch.once,
         &mut scratch.twice,
-    );
-    round_all(
-        scratch.preset.t,
-        scratch.phase.as_slice(),
         scratch.message.as_mut_slice(),
     );
     table.decode(scratch.message.as_slice(), out);

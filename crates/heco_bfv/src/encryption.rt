@@ -75,8 +75,30 @@ fn encrypt_into(
     masked(e.p1(), u, row.e2.as_slice(), words, c1);
 }
 
-/// The ciphertext of N slots, by row i of the words: p0 u + e1 + the scaled message, and p1 u + e2. Memory where there
-/// is none.
+/// The ciphertext of the message m, by row i of the words: p0 u + e1 + the scaled message, and p1 u + e2. Memory where
+/// there is none.
+pub fn encrypt_poly(alloc: Global, e: &Eval, w: &EncWords, i: u32, m: &[u32]) -> Result<Ct, Memory>
+    requires preset { w.now.preset ≡ e.now.preset }
+    requires row { i < length w.now.rows }
+    requires u { (r : Row) → slice_get w.now.rows i ≡ Some r → length r.u ≡ e.now.preset.n }
+    requires e1 { (r : Row) → slice_get w.now.rows i ≡ Some r → length r.e1 ≡ e.now.preset.n }
+    requires e2 { (r : Row) → slice_get w.now.rows i ≡ Some r → length r.e2 ≡ e.now.preset.n }
+    requires m { length m.now ≡ e.now.preset.n }
+    requires below { All (λ x. x < e.now.preset.t) m.now }
+    ensures ciphertext { IfOk result (λ c. IsCiphertext e.now.preset.n c) }
+    ensures count { IfOk result (λ c. length c ≡ 2) }
+    ensures formula { IfOk result (λ c. (r : Row) → slice_get w.now.rows i ≡ Some r → c ≡ encrypted e.now.preset e.now.p0 e.now.p1 r.u r.e1 r.e2 m.now) }
+    ensures noise { IfOk result (λ c. (r : Row) (s : List ℤ) → slice_get w.now.rows i ≡ Some r → IsSparse e.now.preset.n e.now.preset.h s → IsPublicKey e.now.preset.n e.now.preset.b s e.now.p0 e.now.p1 → IsSparse e.now.preset.n e.now.preset.h r.u → AreErrors e.now.preset.n e.now.preset.b r.e1 → AreErrors e.now.preset.n e.now.preset.b r.e2 → noise e.now.preset s c m.now ≤ row.fresh e.now.preset.t e.now.preset.h e.now.preset.b) }
+{
+    let p = e.preset();
+    let mut words = Poly::zero(alloc, p)?;
+    let mut c0 = Poly::zero(alloc, p)?;
+    let mut c1 = Poly::zero(alloc, p)?;
+    encrypt_into(e, w.rows.get(i as usize), m, &mut words, &mut c0, &mut c1);
+    Ok(Ct::of(c0, c1))
+}
+
+/// The ciphertext of N slots: of the message that encodes them. Memory where there is none.
 pub fn encrypt(alloc: Global, e: &Eval, w: &EncWords, i: u32, slots: &[u32]) -> Result<Ct, Memory>
     requires preset { w.now.preset ≡ e.now.preset }
     requires row { i < length w.now.rows }
@@ -94,16 +116,5 @@ pub fn encrypt(alloc: Global, e: &Eval, w: &EncWords, i: u32, slots: &[u32]) -> 
     let table = SlotTable::build(alloc, p)?;
     let mut message = vec![in alloc; 0; p.n as usize]?;
     table.encode(slots, message.as_mut_slice());
-    let mut words = Poly::zero(alloc, p)?;
-    let mut c0 = Poly::zero(alloc, p)?;
-    let mut c1 = Poly::zero(alloc, p)?;
-    encrypt_into(
-        e,
-        w.rows.get(i as usize),
-        message.as_slice(),
-        &mut words,
-        &mut c0,
-        &mut c1,
-    );
-    Ok(Ct::of(c0, c1))
+    encrypt_poly(alloc, e, w, i, message.as_slice())
 }

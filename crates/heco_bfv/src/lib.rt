@@ -23,8 +23,8 @@ mod turn;
 mod words;
 
 pub use ciphertext::Ct;
-pub use decryption::{Scratch, decrypt};
-pub use encryption::encrypt;
+pub use decryption::{Scratch, decrypt, decrypt_poly};
+pub use encryption::{encrypt, encrypt_poly};
 pub use gates::Gates;
 pub use laws::{decryption_inverts_encryption, made_keys_are_keys, slots_of_the_messages};
 pub use round_trip::decrypt_after_encrypt;

@@ -1,4 +1,4 @@
-ghost use Rattle.std.specs.Prelude.{◌≡◌, ◌<◌, All, OnOk, length};
+ghost use Rattle.std.specs.Prelude.{◌≡◌, ◌<◌, All, OnOk, OnErr, length};
 ghost use Rattle.heco_material.specs.KeyLists.{key_count, lists_of, IsEncMaterial, IsKeyMaterial};
 
 use crate::{Scratch, decrypt, encrypt};
@@ -25,7 +25,8 @@ pub fn decrypt_after_encrypt(
     requires slots { length slots.now ≡ k.now.preset.slots }
     requires below { All (λ x. x < k.now.preset.t) slots.now }
     requires out { length out.old ≡ k.now.preset.slots }
-    ensures { OnOk result (out.new ≡ slots.now) }
+    ensures back { OnOk result (out.new ≡ slots.now) }
+    ensures kept { OnErr result (out.new ≡ out.old) }
 {
     let (secret, eval) = make(alloc, k)?;
     let c = encrypt(alloc, &eval, w, i, slots)?;

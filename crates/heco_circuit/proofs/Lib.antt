@@ -5,3 +5,4 @@ pub mod Formed
 pub mod Sizes
 pub mod FileLaws
 pub mod Rising
+pub mod QuietLaw

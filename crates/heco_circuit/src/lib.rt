@@ -19,7 +19,7 @@ pub use circuit::Circuit;
 pub use error::CirErr;
 pub use gate::{Cell, Gate, Output};
 pub use key_needs::needs;
-pub use quiet::bounds;
+pub use quiet::{bounds, valid_circuits_are_quiet};
 pub use reading::read;
 pub use writing::write;
 

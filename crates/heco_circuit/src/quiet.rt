@@ -3,6 +3,8 @@ ghost use Rattle.std.specs.List.{list_all};
 ghost use Rattle.heco_noise.specs.Rows.{IsQuiet};
 ghost use Rattle.heco_circuit.specs.Bounds.{fresh_of, fresh_bounds, wire_bounds, is_below};
 ghost use Rattle.heco_circuit.specs.Noises.{IsNoise};
+ghost use Rattle.heco_circuit.specs.Circuits.{IsCircuit};
+ghost use Rattle.heco_circuit.specs.Plans.{Plan};
 
 use crate::circuit::Circuit;
 use crate::gate::Gate;
@@ -83,3 +85,9 @@ pub fn bounds(alloc: Global, c: &Circuit) -> Result<List<u128>, Memory>
         Noise::Passing { .. } => unreachable!(),
     }
 }
+
+/// No bound of a valid circuit passes.
+#[tactic(auto, using(crate::proofs::QuietLaw::quiet_law))]
+pub fn valid_circuits_are_quiet()
+    ensures { (p : Plan) → IsCircuit p → All IsQuiet (wire_bounds p.preset p.inputs p.gates) }
+{}

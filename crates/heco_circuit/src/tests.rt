@@ -40,9 +40,16 @@ const COPY: &str = "484349520101000100000001780001000000000001000000017900010100
 // One output, which is the number 5.
 const FIVE: &str = "4843495201010000000000000001000000017900010000000005";
 
+// Each kind of gate once, an output of a slot and a number, and a second output.
+const EVERY_GATE: &str =
+    "48434952010100020000000161000800000001620008000000070100000000020000000000000002040000000000000001050000000406000000c800000005070000010000000006080007000000070002000000017300020100000008000300000000050000000175000101000000030000";
+
 // One input, and four times its square relinearised.
 const SQUARES: &str =
     "4843495201010001000000017800010000000804000000000000000005000000010400000002000000020500000003040000000400000004050000000504000000060000000605000000070000";
+
+// The bounds of its wires.
+const EVERY_BOUND: &str = "4754 4754 4754 9508 97975829 98691317 5625405069 5625405197 5626120685";
 
 // The bounds of the dot product's wires.
 const BOUNDS: &str =
@@ -136,7 +143,7 @@ fn again(alloc: Global, file: &[u8]) -> Result<Bytes, CirErr> {
 
 #[test]
 fn what_a_circuit_tells(rt: HostRuntime) -> Result<(), Fail> {
-    for text in [DOT, COPY, FIVE] {
+    for text in [DOT, COPY, FIVE, EVERY_GATE] {
         let file = bytes_of(rt.alloc(), text)?;
         assert_eq!(rt;
             again(rt.alloc(), file.as_slice())?.as_slice(),
@@ -152,6 +159,30 @@ fn what_a_circuit_tells(rt: HostRuntime) -> Result<(), Fail> {
     let keys = told_needs(rt.alloc(), &dot)?;
     assert!(rt; keys.relin);
     assert_eq!(rt; keys.turns.as_slice(), [1u16, 2, 4].as_slice());
+    Ok(())
+}
+
+#[test]
+fn every_gate_has_its_tag_and_its_bound(rt: HostRuntime) -> Result<(), Fail> {
+    let circuit = read(rt.alloc(), bytes_of(rt.alloc(), EVERY_GATE)?.as_slice())?;
+    assert_eq!(rt;
+        circuit.gates().as_slice(),
+        [
+            Gate::Neg { a: 0 },
+            Gate::Add { a: 0, b: 2 },
+            Gate::Mul { a: 0, b: 1 },
+            Gate::Relin { a: 4 },
+            Gate::Scale { c: 200, a: 5 },
+            Gate::Shift { c: 256, a: 6 },
+            Gate::Turn { r: 7, a: 7 },
+        ]
+        .as_slice()
+    );
+    let found = told_bounds(rt.alloc(), &circuit)?;
+    assert_eq!(rt; found.len(), 9);
+    for (bound, word) in found.as_slice().iter().zip(EVERY_BOUND.split(' ')) {
+        assert_eq!(rt; Some(*bound), word.parse::<u128>().ok());
+    }
     Ok(())
 }
 

@@ -179,3 +179,8 @@ module _ (ns : List VNode) (earlier : all_earlier vector_operands 0 ns ≡ true)
   covered (Scaled c y) x i h e m = at_end x (Scaled c y) (subterms y) i h e (covered_unary y (Scale c) (λ v. refl) (covered y) x i h (scale_node (vector_terms ns) c y (node i) (over i (Scaled c y) h e))) m
   covered (Shifted c y) x i h e m = at_end x (Shifted c y) (subterms y) i h e (covered_unary y (Shift c) (λ v. refl) (covered y) x i h (shift_node (vector_terms ns) c y (node i) (over i (Shifted c y) h e))) m
   covered (Turned r y) x i h e m = at_end x (Turned r y) (subterms y) i h e (covered_unary y (Turn r) (λ v. refl) (covered y) x i h (turn_node (vector_terms ns) r y (node i) (over i (Turned r y) h e))) m
+
+-- the same for a caller
+pub one_node : (ns : List VNode) (i j : ℕ) → all_earlier vector_operands 0 ns ≡ true → EachOnce ns → i < length ns → j < length ns
+    → get_or (vector_terms ns) i (Input 0) ≡ get_or (vector_terms ns) j (Input 0) → i ≡ j
+one_node ns i j earlier once hi hj e = one_place ns earlier once (get_or (vector_terms ns) j (Input 0)) i j hi hj e refl

@@ -6,3 +6,4 @@ pub mod Terms
 pub mod Used
 pub mod Gates
 pub mod Ranges
+pub mod Unrolled

@@ -1,5 +1,5 @@
 -- What scalar nodes hold.
-use Rattle.std.specs.Prelude.{ℕ, ◌+◌, ◌-◌, ◌*◌, ◌%◌, List, [], ◌∷◌, slice_index, slice_index_or}
+use Rattle.std.specs.Prelude.{◌≡◌, ℕ, ◌+◌, ◌-◌, ◌*◌, ◌%◌, List, [], ◌∷◌, slice_index, slice_index_or}
 use Rattle.heco_written.specs.World.{World}
 use Rattle.heco_ir.specs.declared.scalar.SNode.{SNode}
 use Rattle.heco_ir.specs.declared.scalar.SNode.TheVariants.{Num, Elem, Sum, Prod, Neg}
@@ -10,6 +10,15 @@ scalar_operands (Elem a i) = []
 scalar_operands (Sum x y) = x.0 ∷ y.0 ∷ []
 scalar_operands (Prod x y) = x.0 ∷ y.0 ∷ []
 scalar_operands (Neg x) = x.0 ∷ []
+
+-- the same operation, with the same constants, on whatever operands
+abbrev pub SameScalarOperation : SNode → SNode → Type 0
+SameScalarOperation (Num c) (Num d) = c ≡ d
+SameScalarOperation (Elem a i) (Elem b j) = (a ≡ b) × (i ≡ j)
+SameScalarOperation (Sum x y) (Sum u v) = Unit {0}
+SameScalarOperation (Prod x y) (Prod u v) = Unit {0}
+SameScalarOperation (Neg x) (Neg y) = Unit {0}
+SameScalarOperation n m = ⊥
 
 -- the number that an operand holds
 abbrev pub held : List (List ℕ) → ℕ → ℕ

@@ -1,5 +1,5 @@
 -- What vector nodes hold.
-use Rattle.std.specs.Prelude.{ℕ, ◌+◌, ◌-◌, ◌*◌, ◌%◌, List, [], ◌∷◌, map, slice_index, slice_index_or}
+use Rattle.std.specs.Prelude.{◌≡◌, ℕ, ◌+◌, ◌-◌, ◌*◌, ◌%◌, List, [], ◌∷◌, map, slice_index, slice_index_or}
 use Rattle.std.specs.List.{range_with_len}
 use Rattle.heco_written.specs.World.{World}
 use Rattle.heco_written.specs.VectorTerm.{VectorTerm, slot_value}
@@ -14,6 +14,17 @@ vector_operands (Mul v w) = v.0 ∷ w.0 ∷ []
 vector_operands (Scale c v) = v.0 ∷ []
 vector_operands (Shift c v) = v.0 ∷ []
 vector_operands (Turn r v) = v.0 ∷ []
+
+-- the same operation, with the same constants, on whatever operands
+abbrev pub SameVectorOperation : VNode → VNode → Type 0
+SameVectorOperation (Input a) (Input b) = a ≡ b
+SameVectorOperation (Neg v) (Neg u) = Unit {0}
+SameVectorOperation (Add v w) (Add x y) = Unit {0}
+SameVectorOperation (Mul v w) (Mul x y) = Unit {0}
+SameVectorOperation (Scale c v) (Scale d u) = c ≡ d
+SameVectorOperation (Shift c v) (Shift d u) = c ≡ d
+SameVectorOperation (Turn r v) (Turn s u) = r ≡ s
+SameVectorOperation n m = ⊥
 
 -- a list of slots, each from its number
 abbrev pub each_slot : World → (ℕ → ℕ) → List ℕ

@@ -54,6 +54,19 @@ impl<'b, D: Dialect> Builder<'b, D> {
         Builder { nodes: Vec::new(b) }
     }
 
+    /// The number of nodes.
+    pub fn len(&self) -> u32
+        ensures { result ≡ length self.now }
+    {
+        self.nodes.len() as u32
+    }
+
+    pub fn is_empty(&self) -> bool
+        ensures { result ≡ (length self.now == 0) }
+    {
+        self.nodes.is_empty()
+    }
+
     /// Puts a node behind the others. Its number is the number of nodes before it.
     #[tactic(auto, using(crate::proofs::Earlier::pushed))]
     pub fn push(&mut self, n: D::Node) -> Result<NodeId, Memory>

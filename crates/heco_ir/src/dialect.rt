@@ -15,6 +15,9 @@ pub trait Dialect {
     // what a node holds in a world, from what its operands hold
     ghost value: { World → Self.Node → List (List ℕ) → List ℕ };
 
+    // whether two nodes are the same operation, with the same constants, on whatever operands
+    ghost same_operation: { Self.Node → Self.Node → Type 0 };
+
     /// How many operands.
     fn operands(n: Self::Node) -> u32
         ensures { result ≡ length (operands_of n) };
@@ -27,6 +30,7 @@ pub trait Dialect {
     /// The node with that one operand changed.
     fn with_operand(n: Self::Node, i: u32, to: NodeId) -> Self::Node
         requires { i < length (operands_of n) }
+        ensures operation { same_operation n result }
         ensures operands { operands_of result ≡ slice_set (operands_of n) i to.0 }
         ensures value { (w : World) (vs : List (List ℕ)) → value w result vs ≡ value w n vs };
 }

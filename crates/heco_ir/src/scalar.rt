@@ -3,7 +3,7 @@ ghost use Rattle.heco_written.specs.World.{World};
 ghost use Rattle.heco_written.specs.ScalarTerm.{scalar_value};
 ghost use Rattle.heco_ir.specs.declared.scalar.SNode.{SNode};
 ghost use Rattle.heco_ir.specs.Values.{values, all_earlier};
-ghost use Rattle.heco_ir.specs.Scalars.{scalar_operands, scalar_node_value};
+ghost use Rattle.heco_ir.specs.Scalars.{scalar_operands, scalar_node_value, SameScalarOperation};
 ghost use Rattle.heco_ir.specs.Terms.{scalar_terms};
 
 use crate::dialect::{Dialect, NodeId};
@@ -28,6 +28,8 @@ impl Dialect for Scalar {
     ghost operands_of = { scalar_operands };
 
     ghost value = { scalar_node_value };
+
+    ghost same_operation = { SameScalarOperation };
 
     fn operands(n: SNode) -> u32 {
         match n {

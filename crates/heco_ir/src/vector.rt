@@ -1,8 +1,10 @@
-ghost use Rattle.std.specs.Prelude.{◌≡◌, ℕ, List as Seq, map, true};
+ghost use Rattle.std.specs.Prelude.{◌≡◌, ℕ, ◌<◌, List as Seq, length, map, true, slice_index_or};
+ghost use Rattle.heco_written.specs.VectorTerm.{Input};
+ghost use Rattle.heco_ir.specs.Used.{EachOnce};
 ghost use Rattle.heco_written.specs.World.{World};
 ghost use Rattle.heco_ir.specs.declared.vector.VNode.{VNode};
 ghost use Rattle.heco_ir.specs.Values.{values, all_earlier};
-ghost use Rattle.heco_ir.specs.Vectors.{vector_operands, vector_value, vector_slots};
+ghost use Rattle.heco_ir.specs.Vectors.{vector_operands, vector_value, vector_slots, SameVectorOperation};
 ghost use Rattle.heco_ir.specs.Terms.{vector_terms};
 
 use crate::dialect::{Dialect, NodeId};
@@ -30,6 +32,8 @@ impl Dialect for Vector {
     ghost operands_of = { vector_operands };
 
     ghost value = { vector_value };
+
+    ghost same_operation = { SameVectorOperation };
 
     fn operands(n: VNode) -> u32 {
         match n {
@@ -85,4 +89,11 @@ impl Dialect for Vector {
 pub fn vector_nodes_have_their_terms()
     ensures { (w : World) (ns : Seq VNode) → all_earlier vector_operands 0 ns ≡ true
         → values vector_operands vector_value w ns ≡ map (vector_slots w) (vector_terms ns) }
+{}
+
+/// Where no node stands twice, no two nodes have one term.
+#[tactic(auto, using(crate::proofs::Unique::one_node))]
+pub fn one_term_has_one_node()
+    ensures { (ns : Seq VNode) (i j : ℕ) → all_earlier vector_operands 0 ns ≡ true → EachOnce ns → i < length ns → j < length ns
+        → slice_index_or (vector_terms ns) i (Input 0) ≡ slice_index_or (vector_terms ns) j (Input 0) → i ≡ j }
 {}

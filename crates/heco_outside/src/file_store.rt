@@ -1,4 +1,5 @@
-ghost use Rattle.std.specs.Prelude.{None, [], false};
+ghost use Rattle.std.specs.Prelude.{◌≡◌, None, [], false, OnOk};
+ghost use Rattle.heco_outside.specs.Causes.{StoreCause};
 
 use crate::{Store, StoreErr};
 use heco_nums::Bytes;
@@ -31,7 +32,11 @@ impl<R: Files> Store for FileStore<R> {
 
     ghost steady = { λ s. ⊥ };
 
-    fn read(&mut self, alloc: Global, name: &str, limit: u64) -> Result<Bytes, StoreErr> {
+    fn read(&mut self, alloc: Global, name: &str, limit: u64) -> Result<Bytes, StoreErr>
+        ensures cause { StoreCause self.old.faults self.new.faults result }
+        // the count rises at a fault alone
+        ensures quiet { OnOk result (self.new.faults ≡ self.old.faults) }
+    {
         match read_file(&self.rt, alloc, name, limit) {
             Ok(bytes) => Ok(bytes),
             Err(StoreErr::Memory) => Err(StoreErr::Memory),
@@ -42,7 +47,11 @@ impl<R: Files> Store for FileStore<R> {
         }
     }
 
-    fn write(&mut self, _alloc: Global, name: &str, bytes: &[u8]) -> Result<(), StoreErr> {
+    fn write(&mut self, _alloc: Global, name: &str, bytes: &[u8]) -> Result<(), StoreErr>
+        ensures cause { StoreCause self.old.faults self.new.faults result }
+        // the count rises at a fault alone
+        ensures quiet { OnOk result (self.new.faults ≡ self.old.faults) }
+    {
         match write_file(&self.rt, name, bytes) {
             Ok(()) => Ok(()),
             Err(StoreErr::Memory) => Err(StoreErr::Memory),

@@ -1,4 +1,4 @@
-ghost use Rattle.std.specs.Prelude.{◌≡◌, OnErr, IsErrOf, true, []};
+ghost use Rattle.std.specs.Prelude.{◌≡◌, OnErr, OnOk, IsErrOf, true, []};
 ghost use Rattle.heco_outside.specs.declared.sink.SinkErr.TheVariants.{Failed};
 ghost use Rattle.heco_outside.specs.Causes.{SinkCause, Undisturbed};
 ghost use Rattle.heco_outside.specs.Calls.{Wrote};
@@ -66,6 +66,8 @@ impl Sink for MemSink {
         ensures unchanged { OnErr result (sink_bytes self.new ≡ sink_bytes self.old) }
         ensures counted { Counts (sink_calls self.old) (sink_calls self.new) result }
         ensures fails { sink_fails self.new ≡ sink_fails self.old }
+        // the counts rise at a fault and at want of memory alone
+        ensures quiet { OnOk result ((self.new.faults ≡ self.old.faults) × (self.new.shortages ≡ self.old.shortages)) }
     {
         let number = self.calls.saturating_add(1);
         if self.fails.as_slice().contains(&number) {

@@ -1,4 +1,4 @@
-ghost use Rattle.std.specs.Prelude.{◌≡◌, ◌≤◌, [], false};
+ghost use Rattle.std.specs.Prelude.{◌≡◌, ◌≤◌, [], false, OnOk};
 ghost use Rattle.heco_outside.specs.Causes.{Rose, SinkCause};
 ghost use Rattle.heco_outside.specs.Calls.{HeldWrote};
 
@@ -49,6 +49,8 @@ impl<W: Write> Sink for OutSink<W> {
 
     fn write_all(&mut self, bytes: &[u8]) -> Result<(), SinkErr>
         ensures cause { SinkCause (faults_of self.old) (faults_of self.new) 0 0 result }
+        // the count rises at a fault alone
+        ensures quiet { OnOk result (faults_of self.new ≡ faults_of self.old) }
         // what the writer holds, where that is known, grew by the piece or by a prefix of it
         ensures held { HeldWrote (W.contents (writer_of self.old)) (W.contents (writer_of self.new)) bytes.now result }
     {

@@ -1,3 +1,4 @@
 pub mod PresetSlots
 pub mod Tables
 pub mod Terms
+pub mod TwoRows

@@ -34,7 +34,7 @@ summed_more t i s x y r b f ts xt yt h e c d =
     }
 
 -- ---- a power from the table
-below_turn : (t z n x y e : ℕ) → 0 < t → 0 < n → z ^ n % t ≡ t - 1 → x % (2 * n) ≡ e % (2 * n) → y ≡ z ^ x % t → Cong t (pos y) (pos (z ^ e))
+pub below_turn : (t z n x y e : ℕ) → 0 < t → 0 < n → z ^ n % t ≡ t - 1 → x % (2 * n) ≡ e % (2 * n) → y ≡ z ^ x % t → Cong t (pos y) (pos (z ^ e))
 below_turn t z n x y e h p r d f = rw (f, ← (rem_nat t (z ^ x))) (cong_trans t (pos (rem t (pos (z ^ x)))) (pos (z ^ x)) (pos (z ^ e)) (cong_self t (pos (z ^ x)) h)
     (same_turn t n x e (λ m. pos (z ^ m)) p (power_flip t n z (minus_one t (z ^ n) h r)) d))
 

@@ -1,3 +1,4 @@
 pub mod Messages
 pub mod Slots
 pub mod Tables
+pub mod Rows

@@ -2,6 +2,7 @@
 #![tactic(auto)]
 
 mod decode;
+mod decode_two;
 mod encode;
 mod laws;
 mod powers;

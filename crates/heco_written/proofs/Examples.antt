@@ -192,3 +192,31 @@ greatest_bound_of_512 = refl
 four_squarings : map (λ v. option_map_or (bound (scheme_of 1)) (first_deep (scheme_of 1) v) 0) (vectors 1 (square 1 (square 1 (square 1 (square 1 (a 0)))) ∷ [])) ≡ 863747166108134984309 ∷ []
 unfolding power fold_within fold centre_t
 four_squarings = refl
+
+-- what a linear operation makes of a product is long too
+twice_a_product : figures 1 (times 1 (Number 2) (times 1 (a 0) (b 0)) ∷ [])
+    ≡ record { cost_is = 3; late_cost_is = 3; relinearises = true; turns = []; greatest = 197382634 }
+unfolding power fold_within fold centre_t
+twice_a_product = refl
+
+a_product_and_one : figures 1 (plus 1 (times 1 (a 0) (b 0)) (Number 1) ∷ [])
+    ≡ record { cost_is = 3; late_cost_is = 3; relinearises = true; turns = []; greatest = 98691445 }
+unfolding power fold_within fold centre_t
+a_product_and_one = refl
+
+a_product_taken_away : figures 1 (minus 1 (Element 2 0) (times 1 (a 0) (b 0)) ∷ [])
+    ≡ record { cost_is = 4; late_cost_is = 4; relinearises = true; turns = []; greatest = 98696071 }
+unfolding power fold_within fold centre_t
+a_product_taken_away = refl
+
+-- a product as the right factor is relinearised at once
+a_product_as_right_factor : figures 1 (times 1 (Element 2 0) (times 1 (a 0) (b 0)) ∷ [])
+    ≡ record { cost_is = 4; late_cost_is = 4; relinearises = true; turns = []; greatest = 1016965036469 }
+unfolding power fold_within fold centre_t
+a_product_as_right_factor = refl
+
+-- a number that is added
+one_more : figures 1 (plus 1 (a 0) (Number 1) ∷ [])
+    ≡ record { cost_is = 1; late_cost_is = 1; relinearises = false; turns = []; greatest = 4882 }
+unfolding power fold_within fold centre_t
+one_more = refl

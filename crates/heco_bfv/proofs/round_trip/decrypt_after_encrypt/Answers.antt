@@ -26,8 +26,8 @@ encrypt-requires-clause-e2 c = λ r e.
 no_row : EncRow
 no_row = record { u = []; e1 = []; e2 = [] }
 
-pub returns : goal.returns
-returns c =
+pub returns-clause-back : goal.returns-clause-back
+returns-clause-back c =
     let p : Preset = c.args.k.now.preset in
     let rows : List EncRow = c.args.w.now.rows in
     let r : EncRow = get_or rows c.args.i no_row in
