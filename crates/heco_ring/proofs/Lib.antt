@@ -12,6 +12,7 @@ pub mod Sizes
 pub mod Powers
 pub mod SlotLaws
 pub mod RoundTrip
+pub mod BothRows
 pub mod Wrapping
 pub mod Rows
 pub mod Examples

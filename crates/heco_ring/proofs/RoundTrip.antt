@@ -48,17 +48,17 @@ apart M p i j one half l h c =
     order M p (j - i) one half (omega arith) (omega arith)
     (cong_trans M (pos (3 ^ (j - i))) (pos (3 ^ N) *ℤ pos (3 ^ (j - i))) (pos 1) (rw q at (cong_sym M (pos (3 ^ N) *ℤ pos (3 ^ (j - i))) (pos 1 *ℤ pos (3 ^ (j - i))) w)) (cong_trans M (pos (3 ^ N) *ℤ pos (3 ^ (j - i))) (pos (3 ^ N)) (pos 1) u one))
 
-both : ℕ → ℕ → ℕ → ℕ
+unfoldable pub both : ℕ → ℕ → ℕ → ℕ
 both n i j = (2 * n - 1) * 3 ^ j + 3 ^ i
 
-less_one : (w M x : ℕ) → w + 1 ≡ M → w * x + x ≡ M * x
+pub less_one : (w M x : ℕ) → w + 1 ≡ M → w * x + x ≡ M * x
 less_one w M x e = rw (← e) (omega arith)
 
 both_is : (n i j : ℕ) → 0 < n → both n i j + 3 ^ j ≡ 2 * n * 3 ^ j + 3 ^ i
 unfolding both
 both_is n i j h = let e : 2 * n - 1 + 1 ≡ 2 * n = omega arith in omega (arith, less_one (2 * n - 1) (2 * n) (3 ^ j) e)
 
-both_odd : (n i j : ℕ) → 0 < n → both n i j % 2 ≡ 1 → ⊥
+pub both_odd : (n i j : ℕ) → 0 < n → both n i j % 2 ≡ 1 → ⊥
 both_odd n i j h e = odd_no (both n i j) (3 ^ j) (3 ^ i) (n * 3 ^ j) (three_odd j).0 (three_odd i).0 (omega (arith, both_is n i j h)) (three_odd j).1 (three_odd i).1 e
   where
     odd_no : (E X Y W a b : ℕ) → E + X ≡ 2 * W + Y → X ≡ 2 * a + 1 → Y ≡ 2 * b + 1 → E % 2 ≡ 1 → ⊥
@@ -84,7 +84,7 @@ unfolding both
 kernel_power n z i j k = let e : (2 * n - 1) * (k * 3 ^ j) + k * 3 ^ i ≡ ((2 * n - 1) * 3 ^ j + 3 ^ i) * k = omega arith in
     sym (pow-add z ((2 * n - 1) * (k * 3 ^ j)) (k * 3 ^ i)) ∙ ap (λ (x : ℕ). z ^ x) e ∙ pow-mul z ((2 * n - 1) * 3 ^ j + 3 ^ i) k
 
-kernel_same : (t z p i k : ℕ) → Cong t (pos (z ^ 2 ^ (p + 2))) (negsuc 0) → Cong t (pos ((z ^ both (2 ^ (p + 2)) i i) ^ k)) (pos 1)
+pub kernel_same : (t z p i k : ℕ) → Cong t (pos (z ^ 2 ^ (p + 2))) (negsuc 0) → Cong t (pos ((z ^ both (2 ^ (p + 2)) i i) ^ k)) (pos 1)
 kernel_same t z p i k c =
     let n : ℕ = 2 ^ (p + 2) in
     let h : 0 < n = one-le-pow (p + 2) 2 (omega arith) in
@@ -96,13 +96,13 @@ kernel_same t z p i k c =
 term : (t z n i j k : ℕ) (v : ℤ) → v *ℤ pos (z ^ ((2 * n - 1) * (k * 3 ^ j))) *ℤ pos (z ^ (k * 3 ^ i)) ≡ v *ℤ pos ((z ^ both n i j) ^ k)
 term t z n i j k v = z_mul_assoc v (pos (z ^ ((2 * n - 1) * (k * 3 ^ j)))) (pos (z ^ (k * 3 ^ i))) ∙ ap (λ (x : ℕ). v *ℤ pos x) (kernel_power n z i j k)
 
-sum_ones : (n : ℕ) → sum_z n (λ k. pos 1) ≡ pos n
+pub sum_ones : (n : ℕ) → sum_z n (λ k. pos 1) ≡ pos n
 unfolding sum_z
 sum_ones zero = refl
 sum_ones (suc n) = rw (sum_ones n) (omega (arith, lines))
 
 -- the sum over the slots, where all but slot i come to 0 modulo t
-cong_one_term : (t N i : ℕ) (f : ℕ → ℤ) → i < N → ((j : ℕ) → j < N → (i ≡ j → ⊥) → Cong t (f j) (pos 0)) → Cong t (sum_z N f) (f i)
+pub cong_one_term : (t N i : ℕ) (f : ℕ → ℤ) → i < N → ((j : ℕ) → j < N → (i ≡ j → ⊥) → Cong t (f j) (pos 0)) → Cong t (sum_z N f) (f i)
 unfolding sum_z
 cong_one_term t zero i f h z = absurd (omega arith)
 cong_one_term t (suc N) i f h z = elim (cases_eq i N) [
@@ -114,7 +114,7 @@ cong_one_term t (suc N) i f h z = elim (cases_eq i N) [
       let q : f i +ℤ pos 0 ≡ f i = omega (arith, lines) in rw q at c)
 ]
 
-regroup : (n N : ℕ) (c : ℤ) (V W : ℕ → ℤ) (U K : ℕ → ℕ → ℤ) → ((j k : ℕ) → U j k *ℤ W k ≡ K j k) → sum_z n (λ k. c *ℤ sum_z N (λ j. V j *ℤ U j k) *ℤ W k) ≡ c *ℤ sum_z N (λ j. V j *ℤ sum_z n (λ k. K j k))
+pub regroup : (n N : ℕ) (c : ℤ) (V W : ℕ → ℤ) (U K : ℕ → ℕ → ℤ) → ((j k : ℕ) → U j k *ℤ W k ≡ K j k) → sum_z n (λ k. c *ℤ sum_z N (λ j. V j *ℤ U j k) *ℤ W k) ≡ c *ℤ sum_z N (λ j. V j *ℤ sum_z n (λ k. K j k))
 regroup n N c V W U K e =
     sum_ext n (λ k. c *ℤ sum_z N (λ j. V j *ℤ U j k) *ℤ W k) (λ k. c *ℤ sum_z N (λ j. V j *ℤ K j k)) (λ k l.
     z_mul_assoc c (sum_z N (λ j. V j *ℤ U j k)) (W k)
@@ -122,7 +122,7 @@ regroup n N c V W U K e =
     ∙ sum_mul n c (λ k. sum_z N (λ j. V j *ℤ K j k))
     ∙ ap (λ (x : ℤ). c *ℤ x) (sum_swap n N (λ k j. V j *ℤ K j k) ∙ sum_ext N (λ j. sum_z n (λ k. V j *ℤ K j k)) (λ j. V j *ℤ sum_z n (λ k. K j k)) (λ j jl. sum_mul n (V j) (λ k. K j k)))
 
-last : (t n ninv v : ℕ) (a b s : ℤ) → 0 < t → v < t → Cong t a (pos ninv *ℤ b) → Cong t b (pos v *ℤ s) → Cong t s (pos n) → Cong t (pos (n * ninv)) (pos 1) → rem t a ≡ v
+pub last : (t n ninv v : ℕ) (a b s : ℤ) → 0 < t → v < t → Cong t a (pos ninv *ℤ b) → Cong t b (pos v *ℤ s) → Cong t s (pos n) → Cong t (pos (n * ninv)) (pos 1) → rem t a ≡ v
 last t n ninv v a b s h l c d e f =
     let g : Cong t a (pos ninv *ℤ (pos v *ℤ pos n)) = cong_trans t a (pos ninv *ℤ b) (pos ninv *ℤ (pos v *ℤ pos n)) c (cong_mul t (pos ninv) (pos ninv) b (pos v *ℤ pos n) (cong_refl t (pos ninv)) (cong_trans t b (pos v *ℤ s) (pos v *ℤ pos n) d (cong_mul t (pos v) (pos v) s (pos n) (cong_refl t (pos v)) e))) in
     let q : pos ninv *ℤ (pos v *ℤ pos n) ≡ pos v *ℤ pos (n * ninv) = (let r : ninv * (v * n) ≡ v * (n * ninv) = omega arith in ap pos r) in
@@ -150,7 +150,7 @@ sum_of_even t z p E r od ne =
     let m : Cong t (pos ((z ^ E) ^ 2 ^ f.0)) (negsuc 0) = rw (← (pow-mul z E (2 ^ f.0))) (cong_trans t (pos (z ^ (E * 2 ^ f.0))) (pos (z ^ n)) (negsuc 0) c r.minus_one) in
     geometric t (p + 2) (z ^ E) f.0 (omega (arith, f.1)) m
 
-kernel_other : (t z p i j : ℕ) → Roots t z p → i < 2 ^ (p + 1) → j < 2 ^ (p + 1) → (i ≡ j → ⊥) → Cong t (sum_z (2 ^ (p + 2)) (λ k. pos ((z ^ both (2 ^ (p + 2)) i j) ^ k))) (pos 0)
+pub kernel_other : (t z p i j : ℕ) → Roots t z p → i < 2 ^ (p + 1) → j < 2 ^ (p + 1) → (i ≡ j → ⊥) → Cong t (sum_z (2 ^ (p + 2)) (λ k. pos ((z ^ both (2 ^ (p + 2)) i j) ^ k))) (pos 0)
 kernel_other t z p i j r hi hj ne =
     let h : 0 < 2 ^ (p + 2) = one-le-pow (p + 2) 2 (omega arith) in
     sum_of_even t z p (both (2 ^ (p + 2)) i j) r (both_odd (2 ^ (p + 2)) i j h) (both_apart p i j r.round r.half hi hj ne)
@@ -185,18 +185,22 @@ slot_encode t z p ninv i v r inv hi hv =
 halve : (s d : ℕ) → s ≡ 2 ^ (d + 1) → s / 2 ≡ 2 ^ d
 halve s d e = let f : 2 ^ (d + 1) ≡ 2 ^ d * 2 = pow-add 2 d 1 in omega (arith, e, f)
 
-slot_back : (n N t z ninv i : ℕ) (v : List ℕ) → HasSlots n N t z ninv → i < N → get_or v i 0 < t → slot n t z (wholes (encode n t z ninv N v)) i ≡ get_or v i 0
-slot_back n N t z ninv i v s hi hv =
+-- the tests of slots that are computed, as congruences
+pub roots : (n N t z ninv : ℕ) (s : HasSlots n N t z ninv) → Roots t z s.depth
+roots n N t z ninv s =
     let d : ℕ = s.depth in
     let hn : 0 < n = rw (s.n_power) (one-le-pow (d + 2) 2 (omega arith)) in
-    let two : 1 < 2 * n = omega arith in
-    let r : Roots t z d = record {
+    record {
       t_pos = s.t_pos;
       minus_one = rw (s.n_power) at (minus_one t (z ^ n) s.t_pos s.minus_one);
       round = rw (s.n_power, s.slots_power) at (one_mod (2 * n) (3 ^ N) (omega arith) s.round);
       half = λ c. s.half (rw (halve N d s.slots_power, s.n_power) (mod_one (2 * 2 ^ (d + 2)) (3 ^ 2 ^ d) (omega (arith, s.n_power)) c));
-    } in
-    rw (s.n_power, s.slots_power) (slot_encode t z d ninv i v r (rw (s.n_power) at (one_mod t (n * ninv) s.t_pos s.inverse)) (rw (s.slots_power) at hi) hv)
+    }
+
+slot_back : (n N t z ninv i : ℕ) (v : List ℕ) → HasSlots n N t z ninv → i < N → get_or v i 0 < t → slot n t z (wholes (encode n t z ninv N v)) i ≡ get_or v i 0
+slot_back n N t z ninv i v s hi hv =
+    let r : Roots t z s.depth = roots n N t z ninv s in
+    rw (s.n_power, s.slots_power) (slot_encode t z s.depth ninv i v r (rw (s.n_power) at (one_mod t (n * ninv) s.t_pos s.inverse)) (rw (s.slots_power) at hi) hv)
 
 pub decode_encode : (n N t z ninv : ℕ) (v : List ℕ) → HasSlots n N t z ninv → length v ≡ N → All (λ x. x < t) v → decode n t z N (wholes (encode n t z ninv N v)) ≡ v
 unfolding decode

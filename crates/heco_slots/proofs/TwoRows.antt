@@ -38,10 +38,13 @@ turned_back M X g h one e =
   where
     less : (w M X : ℕ) → w + 1 ≡ M → w * X + X ≡ M * X
     less w M X e = rw (← e) (omega arith)
+
     smaller : (M q r X : ℕ) → 1 < M → M * q + r ≡ X → 1 ≤ X → q + 1 ≤ X
     smaller M q r X h e one = let two : 2 * q ≤ M * q = mul-le-mul_right q h in omega arith
+
     back : (M X a : ℕ) → a ≤ X → M * (X - a) + M * a ≡ M * X
     back M X a h = let e : X - a + a ≡ X = omega arith in let spread : M * (X - a) + M * a ≡ M * (X - a + a) = omega arith in spread ∙ ap (λ (y : ℕ). M * y) e
+
     final : (M X q g A B : ℕ) → M * q + g ≡ X → A + X ≡ M * X → B + M * (q + 1) ≡ M * X → g ≤ M → A ≡ B + (M - g)
     final M X q g A B e f h l = let p : M * (q + 1) ≡ M * q + M = omega arith in omega arith
 

@@ -10,8 +10,9 @@ mod table;
 mod term;
 
 pub use laws::{
-    decode_inverts_encode, slots_of_a_constant, slots_of_a_difference, slots_of_a_multiple,
-    slots_of_a_negative, slots_of_a_product, slots_of_a_sum, slots_of_a_turn, slots_of_the_decoded,
+    both_rows_come_back, decode_inverts_encode, slots_of_a_constant, slots_of_a_difference,
+    slots_of_a_multiple, slots_of_a_negative, slots_of_a_product, slots_of_a_sum, slots_of_a_turn,
+    slots_of_the_decoded,
 };
 pub use table::SlotTable;
 
