@@ -8,7 +8,7 @@ use Rattle.heco_ir.specs.declared.vector.VNode.{VNode}
 use Rattle.heco_ir.specs.declared.vector.VNode.TheVariants.{Input, Mul}
 use Rattle.heco_ir.specs.Ranges.{Fits, AllFit, node_gates, gates_of_nodes}
 use Rattle.heco_ir.specs.Used.{EachOnce}
-use Rattle.heco_batch.specs.Table.{AllElementsBelow}
+use Rattle.heco_ir.specs.Unrolled.{AllElementsBelow}
 use native.Mathlib.Decide.{dec_lt}
 
 abbrev inputs_in : VNode → ℕ

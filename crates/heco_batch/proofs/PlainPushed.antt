@@ -11,7 +11,7 @@ use Rattle.heco_ir.specs.Values.{all_below}
 use Rattle.heco_ir.specs.Scalars.{scalar_operands}
 use Rattle.heco_ir.specs.Terms.{scalar_terms, scalar_term_over, scalar_at}
 use Rattle.heco_ir.proofs.Built.{both, built-push, length-built}
-use Rattle.heco_batch.specs.Table.{AllMade, operation}
+use Rattle.heco_ir.specs.Unrolled.{AllMade, operation}
 use Rattle.heco_batch.specs.Plain.{IsPlain, ArePlain}
 use Rattle.heco_batch.proofs.TableRead.{operations-append}
 

@@ -21,7 +21,8 @@ use Rattle.heco_batch.specs.declared.home.NodeHome.TheVariants.{Number as Number
 use Rattle.heco_batch.specs.declared.written.NodeWritten.{NodeWritten}
 use Rattle.heco_batch.specs.Homes.{HomeIs}
 use Rattle.heco_batch.specs.Table.{TableIs}
-use Rattle.heco_batch.specs.Roots.{root_terms, written_homes, homes_from, vectors_of, HomeFits, AllHomesFit, RootsAre}
+use Rattle.heco_ir.specs.Unrolled.{root_terms}
+use Rattle.heco_batch.specs.Roots.{written_homes, homes_from, vectors_of, HomeFits, AllHomesFit, RootsAre}
 use Rattle.heco_batch.proofs.HomesAdded.{places-known, places-at}
 
 -- the nodes so far are the first of the set

@@ -4,7 +4,7 @@ use Rattle.heco_written.specs.ScalarTerm.{ScalarTerm, IsMade, is_number}
 use Rattle.heco_ir.specs.declared.scalar.SNode.{SNode}
 use Rattle.heco_ir.specs.declared.scalar.SNode.TheVariants.{Num, Elem, Sum, Prod, Neg}
 use Rattle.heco_ir.specs.Terms.{scalar_terms}
-use Rattle.heco_batch.specs.Table.{AllElementsBelow, operations}
+use Rattle.heco_ir.specs.Unrolled.{AllElementsBelow, operations}
 
 -- an element in range, or an operation on the first nodes
 abbrev pub IsPlain : ℕ → ℕ → SNode → Type 0

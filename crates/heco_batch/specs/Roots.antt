@@ -1,19 +1,14 @@
 -- The homes of roots: numbers, or slots of numbered vectors.
-use Rattle.std.specs.Prelude.{ℕ, ◌+◌, ◌<◌, ◌≡◌, true, List, [], ◌∷◌, map, length, slice_index_or}
-use Rattle.heco_written.specs.ScalarTerm.{ScalarTerm, Number}
+use Rattle.std.specs.Prelude.{ℕ, ◌+◌, ◌<◌, ◌≡◌, true, List, [], ◌∷◌, map, length}
+use Rattle.heco_written.specs.ScalarTerm.{ScalarTerm}
 use Rattle.heco_written.specs.VectorTerm.{VectorTerm}
 use Rattle.heco_written.specs.WrittenForm.{Home as WrittenHome, Known, At as AtPlace, places, written}
 use Rattle.heco_ir.specs.declared.dialect.NodeId.{NodeId}
 use Rattle.heco_ir.specs.declared.home.Home.{Home}
 use Rattle.heco_ir.specs.declared.home.Home.TheVariants.{Number as NumberHome, At}
-use Rattle.heco_ir.specs.declared.scalar.SNode.{SNode}
 use Rattle.heco_ir.specs.declared.vector.VNode.{VNode}
 use Rattle.heco_ir.specs.Values.{all_below, numbers}
-use Rattle.heco_ir.specs.Terms.{scalar_terms, terms_at}
-
--- the terms of the roots of a scalar IR
-abbrev pub root_terms : List SNode → List ℕ → List ScalarTerm
-root_terms ns roots = map (λ i. slice_index_or (scalar_terms ns) i (Number 0)) roots
+use Rattle.heco_ir.specs.Terms.{terms_at}
 
 -- the homes of the written forms of terms
 abbrev pub written_homes : ℕ → ℕ → List ScalarTerm → List WrittenHome

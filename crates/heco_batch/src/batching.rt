@@ -6,8 +6,9 @@ ghost use Rattle.heco_ir.specs.Used.{EachOnce};
 ghost use Rattle.heco_ir.specs.Values.{all_below, numbers};
 ghost use Rattle.heco_ir.specs.Terms.{scalar_terms, terms_at};
 ghost use Rattle.heco_batch.specs.Homes.{HomeIs};
-ghost use Rattle.heco_batch.specs.Table.{TableIs, AllMade, AllElementsBelow, HasInputs, operations};
-ghost use Rattle.heco_batch.specs.Roots.{RootsAre, root_terms, written_homes, homes_from, vectors_of, AllHomesFit};
+ghost use Rattle.heco_ir.specs.Unrolled.{AllMade, AllElementsBelow, operations, root_terms};
+ghost use Rattle.heco_batch.specs.Table.{TableIs, HasInputs};
+ghost use Rattle.heco_batch.specs.Roots.{RootsAre, written_homes, homes_from, vectors_of, AllHomesFit};
 
 use crate::home::NodeHome;
 use crate::place::NodeSlot;

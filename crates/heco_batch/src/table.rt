@@ -8,7 +8,8 @@ ghost use Rattle.heco_ir.specs.Values.{all_below};
 ghost use Rattle.heco_written.specs.Proper.{IsProper};
 ghost use Rattle.heco_batch.specs.Homes.{IsNoZero};
 ghost use Rattle.heco_batch.specs.Written.{WrittenIs};
-ghost use Rattle.heco_batch.specs.Table.{TableIs, AllMade, AllElementsBelow, operation, operations};
+ghost use Rattle.heco_ir.specs.Unrolled.{AllMade, AllElementsBelow, operation, operations};
+ghost use Rattle.heco_batch.specs.Table.{TableIs};
 
 use crate::home::{NodeHome, multiplied, negated};
 use crate::place::NodeSlot;

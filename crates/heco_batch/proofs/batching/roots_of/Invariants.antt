@@ -1,6 +1,7 @@
 use Rattle.std.proofs.Common.{◌≤◌, take, length}
 use Rattle.heco_ir.specs.Values.{numbers}
-use Rattle.heco_batch.specs.Roots.{RootsAre, root_terms, written_homes}
+use Rattle.heco_ir.specs.Unrolled.{root_terms}
+use Rattle.heco_batch.specs.Roots.{RootsAre, written_homes}
 use Rattle.heco_batch.proofs.batching.roots_of.Given as goal
 
 abbrev pub invariant-loop-root : goal.invariant-loop-root
