@@ -1,0 +1,4 @@
+pub mod Homes
+pub mod Thrift
+pub mod Placed
+pub mod Deep
