@@ -1,12 +1,13 @@
 #!/usr/bin/env bash
 # Runs each example and compares it with its row of answers.txt: words, status, and the printed lines or the line on
-# the error stream, with `; ` between lines.
+# the error stream, with `; ` between lines. HECO may name another program than ./heco.
 cd "$(dirname "${BASH_SOURCE[0]}")" || exit 1
+heco=${HECO:-../heco}
 failed=0
 
 try() {
   local text status
-  text=$(../heco $1 2>&1 </dev/null)
+  text=$("$heco" $1 2>&1 </dev/null)
   status=$?
   if [ "$status|${text//$'\n'/; }" != "$2" ]; then
     echo "heco $1: want $2, found $status|${text//$'\n'/; }"
