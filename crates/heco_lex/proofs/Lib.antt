@@ -3,3 +3,4 @@ pub mod Unique
 pub mod Advances
 pub mod SpacedSplits
 pub mod Spans
+pub mod OneRefusal

@@ -1,7 +1,9 @@
-ghost use Rattle.std.specs.Prelude.{◌≡◌, ◌≤◌, ◌<◌, ◌^◌, ℕ, IfOk, IfErr, MatchResult, length, List as Seq};
+ghost use Rattle.std.specs.Prelude.{◌≡◌, ◌≢◌, ◌⊎◌, ◌≤◌, ◌<◌, ◌^◌, ℕ, Err, IfOk, IfErr, MatchResult, length, List as Seq};
 ghost use Rattle.heco_lex.specs.Places.{place_in};
 ghost use Rattle.heco_lex.specs.Splits.{Splits, AreSpans};
 ghost use Rattle.heco_lex.specs.Steps.{IsStep, StepRefused, IsRefusal};
+ghost use Rattle.heco_lex.specs.declared.split.LexErr.{LexErr as Refusal};
+ghost use Rattle.heco_lex.specs.declared.split.LexErr.TheVariants as e;
 ghost use Rattle.heco_lex.specs.declared.token.Token.{Token};
 
 use crate::piece::{Piece, first_piece};
@@ -63,6 +65,7 @@ pub fn tokens(alloc: Global, text: &[u8]) -> Result<List<Token>, LexErr>
     ensures only { IfOk result (λ ts. (us : Seq Token) → Splits 0 text.now us → us ≡ ts) }
     ensures spans { IfOk result (AreSpans text.now 0) }
     ensures bad { IfErr result (IsRefusal text.now) }
+    ensures refuses { (err : Refusal) → err ≢ e.Memory → IsRefusal text.now err → (result ≡ Err err) ⊎ (result ≡ Err e.Memory) }
 {
     let mut tokens = List::new(alloc);
     let mut at = 0;

@@ -1,4 +1,4 @@
-ghost use Rattle.std.specs.Prelude.{◌≡◌, ◌≤◌, ◌<◌, ◌^◌, ℕ, ◌↔◌, IfOk, IfErr, MatchResult, length};
+ghost use Rattle.std.specs.Prelude.{◌≡◌, ◌≢◌, ◌⊎◌, ◌≤◌, ◌<◌, ◌^◌, ℕ, ◌↔◌, Err, IfOk, IfErr, MatchResult, length};
 ghost use Rattle.heco_lex.specs.Splits.{Splits, AreSpans};
 ghost use Rattle.heco_lex.specs.declared.token.Token.{Token};
 ghost use Rattle.heco_syntax.specs.Lexemes.{lexemes_of};
@@ -8,6 +8,8 @@ ghost use Rattle.heco_syntax.specs.Wellformed.{IsWellformed};
 ghost use Rattle.heco_syntax.specs.declared.tree.Source.{Source};
 ghost use Rattle.heco_print.specs.Lines.{printed};
 ghost use Rattle.heco_parse.specs.Regained.{Regains};
+ghost use Rattle.heco_parse.specs.declared.read.ParseErr.{ParseErr as Refusal};
+ghost use Rattle.heco_parse.specs.declared.read.ParseErr.TheVariants as e;
 ghost use Rattle.heco_parse.specs.Trees.{source_limit, place_or_end, HasNoTree, IsTree, IsRefused};
 ghost use Rattle.std.specs.Prelude.{List as Seq};
 
@@ -106,6 +108,7 @@ pub fn parse(alloc: Global, text: &[u8]) -> Result<Source, ParseErr>
     ensures printed { (source : Seq ℕ) (x : Source) → IsTree source x → text.now ≡ printed x → length text.now ≤ source_limit → Regains x result }
     ensures long { (result ≡ Err ParseErr.SourceLong) ↔ (source_limit < length text.now) }
     ensures refused { IfErr result (IsRefused text.now) }
+    ensures refuses { (err : Refusal) → err ≢ e.Memory → length text.now ≤ source_limit → IsRefused text.now err → (result ≡ Err err) ⊎ (result ≡ Err e.Memory) }
 {
     if text.len() > SOURCE_LIMIT {
         return Err(ParseErr::SourceLong);

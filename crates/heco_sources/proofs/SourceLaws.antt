@@ -1,5 +1,5 @@
 -- A text is one typed source at most, and none where it is refused.
-use Rattle.std.proofs.Common.{◌≡◌, ◌∙◌, ◌⊎◌, refl, sym, ap, subst, ℕ, ◌≤◌, ◌<◌, List, [], ◌++◌, append-nil, length, Result, Ok, Err, inl, inr, arith}
+use Rattle.std.proofs.Common.{◌≡◌, ◌≢◌, ◌∙◌, ◌⊎◌, refl, sym, ap, subst, ℕ, ◌≤◌, ◌<◌, List, [], ◌++◌, append-nil, length, Result, Ok, Err, inl, inr, arith}
 use Rattle.std.specs.Prelude.{IfOk, IfErr}
 use Rattle.std.proofs.lemmas.Bool.{cases_lt}
 use Rattle.heco_lex.proofs.Unique.{one_split}
@@ -17,9 +17,12 @@ use Rattle.heco_parse.specs.Trees.{source_limit, IsTree}
 use Rattle.heco_parse.specs.Trees as reading
 use Rattle.heco_parse.specs.declared.read.ParseErr.{ParseErr}
 use Rattle.heco_parse.specs.declared.read.ParseErr.TheVariants as parse
+use Rattle.heco_parse.proofs.OneRefusal.{one_refusal_at as reading_once}
 use Rattle.heco_parse.proofs.Reread.{not_refused}
-use Rattle.heco_types.specs.FirstBroken.{BreaksNone}
-use Rattle.heco_sources.specs.Sources.{IsSource, IsMistyped, IsRefused, parse_answer}
+use Rattle.heco_types.specs.FirstBroken.{BreaksNone, IsFirstBroken}
+use Rattle.heco_types.specs.Parameters.{sites}
+use Rattle.heco_types.proofs.OneCause.{one_first}
+use Rattle.heco_sources.specs.Sources.{IsSource, IsMistyped, IsRefused, parse_answer, type_answer}
 use Rattle.heco_sources.specs.declared.source.SourceErr.{SourceErr}
 use Rattle.heco_sources.specs.declared.source.SourceErr.TheVariants as e
 
@@ -63,6 +66,38 @@ pub refused_none : (text : List ℕ) (s : Source) (refusal : SourceErr) → IsSo
 refused_none text s e.SourceLong is h = absurd (let short = is.short in omega arith)
 refused_none text s (e.At rule at) is h = absurd (refused_at text s rule at is h)
 refused_none text s e.Memory is h = refl
+
+-- ---- a text that is refused is refused for one reason
+
+one_mistake : (text : List ℕ) (r s : Rule) (p q : Place) → IsMistyped text r p → IsMistyped text s q → e.At r p ≡ e.At s q
+one_mistake text r s p q a b =
+    ap type_answer (one_first (sites a.source) r s p q a.first (subst (λ x. IsFirstBroken x s q) (one_tree text b.source a.source b.tree a.tree) b.first))
+
+-- a text that has a tree breaks no rule of reading
+read_and_mistyped : (text : List ℕ) (r s : Rule) (p q : Place) → length text ≤ source_limit → reading.IsRefused text (parse.At r p) → IsMistyped text s q → ⊥
+read_and_mistyped text r s p q short a m =
+    let none : parse.At r p ≡ parse.Memory = not_refused text m.tree.tokens m.source m.tree.split m.tree.is short (parse.At r p) a in
+    let no : ⊥ = cc in no
+
+one_refusal_at : (text : List ℕ) (r s : Rule) (p q : Place) → IsRefused text (e.At r p) → IsRefused text (e.At s q) → e.At r p ≡ e.At s q
+one_refusal_at text r s p q (short, inl a) (less, inl b) = ap parse_answer (reading_once text r s p q a b)
+one_refusal_at text r s p q (short, inl a) (less, inr m) = absurd (read_and_mistyped text r s p q short a m)
+one_refusal_at text r s p q (short, inr m) (less, inl b) = absurd (read_and_mistyped text s r q p short b m)
+one_refusal_at text r s p q (short, inr m) (less, inr n) = one_mistake text r s p q m n
+
+one_refusal : (text : List ℕ) (d f : SourceErr) → IsRefused text d → IsRefused text f → d ≢ e.Memory → f ≢ e.Memory → d ≡ f
+one_refusal text e.Memory f a b real other = absurd (real refl)
+one_refusal text d e.Memory a b real other = absurd (other refl)
+one_refusal text e.SourceLong e.SourceLong a b real other = refl
+one_refusal text e.SourceLong (e.At s q) a b real other = absurd (let short = b.0 in omega arith)
+one_refusal text (e.At r p) e.SourceLong a b real other = absurd (let short = a.0 in omega arith)
+one_refusal text (e.At r p) (e.At s q) a b real other = one_refusal_at text r s p q a b
+
+pub refuses : (text : List ℕ) (r : Result Source SourceErr) → IfOk r (IsSource text) → IfErr r (IsRefused text) → (err : SourceErr) → err ≢ e.Memory → IsRefused text err → (r ≡ Err err) ⊎ (r ≡ Err e.Memory)
+refuses text (Ok t) ok refused err real is = absurd (real (refused_none text t err ok is))
+refuses text (Err e.Memory) ok refused err real is = inr refl
+refuses text (Err e.SourceLong) ok refused err real is = inl (ap Err (one_refusal text e.SourceLong err refused is (λ h. cc) real))
+refuses text (Err (e.At r p)) ok refused err real is = inl (ap Err (one_refusal text (e.At r p) err refused is (λ h. cc) real))
 
 pub reads : (text : List ℕ) (r : Result Source SourceErr) → IfOk r (IsSource text) → IfErr r (IsRefused text) → (s : Source) → IsSource text s → (r ≡ Ok s) ⊎ (r ≡ Err e.Memory)
 reads text (Ok t) ok err s is = inl (ap Ok (one_source text t s ok is))

@@ -3,6 +3,7 @@ ghost use Rattle.heco_parse.specs.Trees.{source_limit, IsTree};
 ghost use Rattle.heco_syntax.specs.Wellformed.{IsWellformed};
 ghost use Rattle.heco_syntax.specs.declared.tree.Source.{Source};
 ghost use Rattle.heco_sources.specs.Sources.{IsSource, IsRefused, parse_answer, type_answer};
+ghost use Rattle.heco_sources.specs.declared.source.SourceErr.{SourceErr as Refusal};
 ghost use Rattle.heco_sources.specs.declared.source.SourceErr.TheVariants as e;
 
 use heco_lex::{Place, Rule};
@@ -61,6 +62,7 @@ pub fn read_source(alloc: Global, text: &[u8]) -> Result<Typed, SourceErr>
     ensures source { IfOk result (IsSource text.now) }
     ensures refused { IfErr result (IsRefused text.now) }
     ensures reads { (s : Source) → IsSource text.now s → (result ≡ Ok s) ⊎ (result ≡ Err e.Memory) }
+    ensures refuses { (err : Refusal) → err ≢ e.Memory → IsRefused text.now err → (result ≡ Err err) ⊎ (result ≡ Err e.Memory) }
 {
     match parse(alloc, text) {
         Ok(tree) => typed(alloc, text, tree),

@@ -5,3 +5,4 @@ pub mod FirstFacts
 pub mod PresetWords
 pub mod TypedFacts
 pub mod TriedFacts
+pub mod OneCause

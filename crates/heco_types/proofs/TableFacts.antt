@@ -79,8 +79,11 @@ ordered : (n : ℕ) (xs : List Rule) → Counted n xs → Ordered xs
 ordered n [] c = tt
 ordered n (x ∷ xs) c = ((λ r i. let a : row x ≡ n = c.0 in above (n + 1) (row x) xs (omega arith) c.1 r i), ordered (n + 1) xs c.1)
 
+table_counted : Counted 0 table
+table_counted = (refl, (refl, (refl, (refl, (refl, (refl, (refl, (refl, (refl, tt)))))))))
+
 table_ordered : Ordered table
-table_ordered = ordered 0 table (refl, (refl, (refl, (refl, (refl, (refl, (refl, (refl, (refl, tt)))))))))
+table_ordered = ordered 0 table table_counted
 
 pub earliest-none : (role : Role) (found : Option Entity) → earliest role found ≡ None → (r : Rule) → is_broken r role found ≡ true → ⊥
 earliest-none role found e r t = find-none (λ s. is_broken s role found) table e r (in_table r role found t) t
@@ -90,3 +93,17 @@ earliest-breaks role found r e = find-holds (λ s. is_broken s role found) table
 
 pub earliest-least : (role : Role) (found : Option Entity) (r : Rule) → earliest role found ≡ Some r → (s : Rule) → is_broken s role found ≡ true → row r ≤ row s
 earliest-least role found r e s t = find-least (λ z. is_broken z role found) table r table_ordered e s (in_table s role found t) t
+
+behind : (n : ℕ) (x : Rule) (xs : List Rule) → Counted n (x ∷ xs) → (r : Rule) → In r xs → row x ≡ row r → ⊥
+behind n x xs c r i e = (let a : row x ≡ n = c.0 in let b : n + 1 ≤ row r = above (n + 1) (n + 1) xs (omega arith) c.1 r i in omega arith)
+
+one_row : (n : ℕ) (xs : List Rule) → Counted n xs → (r s : Rule) → In r xs → In s xs → row r ≡ row s → r ≡ s
+one_row n [] c r s i j e = absurd i
+one_row n (x ∷ xs) c r s (inl a) (inl b) e = sym a ∙ b
+one_row n (x ∷ xs) c r s (inl a) (inr j) e = absurd (behind n x xs c s j (ap row a ∙ e))
+one_row n (x ∷ xs) c r s (inr i) (inl b) e = absurd (behind n x xs c r i (ap row b ∙ sym e))
+one_row n (x ∷ xs) c r s (inr i) (inr j) e = one_row (n + 1) xs c.1 r s i j e
+
+-- broken rules of one row are one rule
+pub same_row : (r s : Rule) (role other : Role) (found known : Option Entity) → is_broken r role found ≡ true → is_broken s other known ≡ true → row r ≡ row s → r ≡ s
+same_row r s role other found known a b e = one_row 0 table table_counted r s (in_table r role found a) (in_table s other known b) e

@@ -1,5 +1,5 @@
 -- The inputs and the outputs of a source.
-use Rattle.std.specs.Prelude.{ℕ, ◌<◌, ◌^◌, Bool, not, List, map}
+use Rattle.std.specs.Prelude.{◌<◌, ◌^◌, Bool, not, List, map}
 use Rattle.std.specs.List.{All, filter}
 use Rattle.heco_nums.specs.declared.shape.Shape.{Shape}
 use Rattle.heco_syntax.specs.Ports.{length_of}

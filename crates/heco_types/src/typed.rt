@@ -1,7 +1,9 @@
-ghost use Rattle.std.specs.Prelude.{◌≡◌, IfOk, IfErr, OnOk, true, false};
+ghost use Rattle.std.specs.Prelude.{◌≡◌, ◌≢◌, ◌⊎◌, Err, IfOk, IfErr, OnOk, true, false};
 ghost use Rattle.std.specs.List.{All};
 ghost use Rattle.heco_nums.specs.Presets.{preset_name};
 ghost use Rattle.heco_syntax.specs.Wellformed.{IsWellformed};
+ghost use Rattle.heco_types.specs.declared.refusal.TypeErr.{TypeErr as Refusal};
+ghost use Rattle.heco_types.specs.declared.refusal.TypeErr.TheVariants as e;
 ghost use Rattle.heco_types.specs.FirstBroken.{BreaksNone, IsCause};
 ghost use Rattle.heco_types.specs.Presets.{slots_named};
 ghost use Rattle.heco_types.specs.Shapes.{shapes_of};
@@ -84,6 +86,7 @@ pub fn check(alloc: Global, s: Source) -> Result<Typed, TypeErr>
     ensures source { IfOk result (λ t. t ≡ s) }
     ensures none { OnOk result (BreaksNone s) }
     ensures cause { IfErr result (IsCause s) }
+    ensures refuses { (err : Refusal) → err ≢ e.Memory → IsCause s err → (result ≡ Err err) ⊎ (result ≡ Err e.Memory) }
 {
     let preset = check_source(alloc, &s)?;
     let inputs = shapes(alloc, s.ports.as_slice(), false)?;
