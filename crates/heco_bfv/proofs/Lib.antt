@@ -1,7 +1,6 @@
 pub mod Constants
 pub mod EncryptSteps
 pub mod FilledSums
-pub mod MadeKeys
 pub mod MessageSlots
 pub mod Numbers
 pub mod PhaseSteps

@@ -16,7 +16,7 @@ use Rattle.heco_scheme.specs.Bounds.{AreErrors, IsSparse}
 use Rattle.heco_scheme.specs.Encryption.{decrypted, encrypted}
 use Rattle.heco_scheme.specs.Keys.{key_part, IsPublicKey}
 use Rattle.heco_scheme.proofs.FreshNoise.{encrypted_noise, decrypted_is}
-use Rattle.heco_bfv.proofs.MadeKeys.{made_public}
+use Rattle.heco_keys.proofs.MadeRows.{made_public}
 use Rattle.heco_bfv.proofs.PhaseSteps.{decoded_reduced}
 
 small_enough : (t b h x y : ℕ) → t ≤ 65537 → x ≡ t * b → y ≡ x * (2 * h + 1) → x ≤ 65537 * 4 → y ≤ 65537 * 4 * 17 → 2 * ((t - 1) / 2 + y) < 2 ^ 58

@@ -97,7 +97,14 @@ fn round_all(t: u32, z: &[u64], out: &mut [u32])
 }
 
 /// The decryption, into out.
-fn message_into(s: &Secret, c: &Ct, phase: &mut Poly, once: &mut Poly, twice: &mut Poly, out: &mut [u32])
+fn message_into(
+    s: &Secret,
+    c: &Ct,
+    phase: &mut Poly,
+    once: &mut Poly,
+    twice: &mut Poly,
+    out: &mut [u32],
+)
     requires c { IsCiphertext s.now.preset.n c.now }
     requires phase { length phase.old ≡ s.now.preset.n }
     requires once { length once.old ≡ s.now.preset.n }
@@ -121,7 +128,14 @@ pub fn decrypt_poly(s: &Secret, c: &Ct, out: &mut [u32], scratch: &mut Scratch)
     ensures formula { out.new ≡ decrypted s.now.preset s.now.places c.now }
     ensures right { (m : List ℕ) (E : ℕ) → row.IsQuiet E → noise s.now.preset s.now.places c.now m ≤ E → out.new ≡ reduced s.now.preset.t s.now.preset.n (wholes m) }
 {
-    message_into(s, c, &mut scratch.phase, &mut scratch.once, &mut scratch.twice, out);
+    message_into(
+        s,
+        c,
+        &mut scratch.phase,
+        &mut scratch.once,
+        &mut scratch.twice,
+        out,
+    );
 }
 
 /// The N slots of the first row of the decryption.

@@ -26,5 +26,5 @@ pub use ciphertext::Ct;
 pub use decryption::{Scratch, decrypt, decrypt_poly};
 pub use encryption::{encrypt, encrypt_poly};
 pub use gates::Gates;
-pub use laws::{decryption_inverts_encryption, made_keys_are_keys, slots_of_the_messages};
+pub use laws::{decryption_inverts_encryption, slots_of_the_messages};
 pub use round_trip::decrypt_after_encrypt;

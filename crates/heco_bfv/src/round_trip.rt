@@ -1,5 +1,6 @@
 ghost use Rattle.std.specs.Prelude.{◌≡◌, ◌<◌, All, OnOk, OnErr, length};
 ghost use Rattle.heco_material.specs.KeyLists.{key_count, lists_of, IsEncMaterial, IsKeyMaterial};
+ghost use Rattle.heco_keys.specs.Amounts.{AreAmounts};
 
 use crate::{Scratch, decrypt, encrypt};
 use heco_keys::make;
@@ -19,6 +20,7 @@ pub fn decrypt_after_encrypt(
     out: &mut [u32],
 ) -> Result<(), Memory>
     requires keys { let p = k.now.preset in IsKeyMaterial p.n p.h p.b (key_count k.now.needs) (lists_of k.now) }
+    requires amounts { AreAmounts k.now.preset.slots k.now.needs.turns }
     requires preset { w.now.preset ≡ k.now.preset }
     requires words { let p = k.now.preset in IsEncMaterial p.n p.h p.b (length w.now.rows) w.now.rows }
     requires row { i < length w.now.rows }

@@ -1,5 +1,5 @@
 -- The switch keys that a circuit needs.
-use Rattle.std.specs.Prelude.{ℕ, zero, suc, ◌+◌, ◌-◌, Bool, true, false, ◌==◌, List, [], ◌∷◌, if◌then◌else◌}
+use Rattle.std.specs.Prelude.{ℕ, zero, suc, ◌+◌, ◌-◌, Bool, true, false, ◌==◌, List, [], ◌∷◌, length, if◌then◌else◌}
 use Rattle.std.specs.List.{list_any}
 use Rattle.heco_nums.specs.Presets.{slots_of}
 use Rattle.heco_circuit.specs.declared.gate.Gate.{Gate}
@@ -25,3 +25,7 @@ needs_relin p = list_any is_relin p.gates
 -- the amounts from 1 to N - 1 by which a gate turns
 abbrev pub needed_turns : Plan → List ℕ
 needed_turns p = occurring p.gates 1 (slots_of p.preset - 1)
+
+-- how many switch keys the circuit needs: one to relinearise, and one for each amount of a turn
+abbrev pub needed_keys : Plan → ℕ
+needed_keys p = (if needs_relin p then 1 else 0) + length (needed_turns p)

@@ -1,9 +1,10 @@
 -- What is read of an evaluation key is what was spelled, for exactly the keys of the preset.
-use Rattle.std.proofs.Common.{◌≡◌, ℕ, zero, suc, ◌+◌, ◌^◌, ◌<◌, ◌≤◌, Bool, true, false, ◌&&◌, leb, eqb, List, ◌++◌, length, refl, sym, ap, ◌∙◌, arith}
+use Rattle.std.proofs.Common.{◌≡◌, ℕ, zero, suc, ◌+◌, ◌^◌, ◌<◌, ◌≤◌, Bool, true, false, ◌&&◌, leb, eqb, List, [], ◌++◌, length, refl, sym, ap, ◌∙◌, arith}
 use Rattle.std.specs.Prelude.{IsTrue}
 use Rattle.std.specs.List.{flat_map, All}
 use Rattle.std.specs.Int.{w8, to_be_bytes}
 use Rattle.std.proofs.lemmas.Bool.{leb-true}
+use Rattle.std.proofs.lemmas.List.Elements.{All-get_or, All-weaker}
 use Rattle.heco_nums.specs.declared.preset.Preset.{Preset}
 use Rattle.heco_nums.proofs.PresetFacts.{facts}
 use Rattle.heco_fields.specs.Formats.{Value, within, many, ◌>>=◌ as ◌then◌}
@@ -13,6 +14,7 @@ use Rattle.heco_fields.proofs.Laws.{Law, then_law, last_law, same_law}
 use Rattle.heco_fields.proofs.FieldLaws.{number_law, wide8}
 use Rattle.heco_fields.proofs.ManyLaws.{each_law}
 use Rattle.heco_scheme.specs.Bounds.{AreWords}
+use Rattle.heco_scheme.specs.Keys.{AreRows}
 use Rattle.heco_lists.specs.ListFormat.{words, words_text}
 use Rattle.heco_lists.proofs.ListLaws.{words_law}
 use Rattle.heco_key_files.specs.KeyFiles.{EvalLists, eval_lists, bit, pair, switch_key, turns, evaluation, pair_text, switch_text, turns_text, lists_text, IsPair, IsSwitchKey, AreTurns, AreEvalLists}
@@ -32,11 +34,22 @@ switch_key_law : (n s : ℕ) → Law (switch_key n s) switch_text (IsSwitchKey n
 unfolding switch_key switch_text
 switch_key_law n s = each_law (pair n) pair_text (IsPair n) (pair_law n) 29 0
 
-abbrev AreSwitches : ℕ → ℕ → List (List (List ℕ × List ℕ)) → Type 0
+abbrev pub AreSwitches : ℕ → ℕ → List (List (List ℕ × List ℕ)) → Type 0
 AreSwitches n count keys = (length keys ≡ count) × All (IsSwitchKey n) keys
 
-switches_law : (n count : ℕ) → Law (many (switch_key n) stays count 0) (flat_map switch_text) (AreSwitches n count)
+pub switches_law : (n count : ℕ) → Law (many (switch_key n) stays count 0) (flat_map switch_text) (AreSwitches n count)
 switches_law n count = each_law (switch_key n) switch_text (IsSwitchKey n) (switch_key_law n) count 0
+
+-- a switch key that is read has its pairs of n places
+pub switches_rows : (n : ℕ) (keys : List (List (List ℕ × List ℕ))) → All (IsSwitchKey n) keys → All (AreRows n) keys
+switches_rows n keys h = All-weaker (IsSwitchKey n) (AreRows n) are_rows keys h
+  where
+    are_rows : (k : List (List ℕ × List ℕ)) → IsSwitchKey n k → AreRows n k
+    are_rows k h = record {
+      count = h.0;
+      firsts = λ i l. (All-get_or (IsPair n) k i ([], []) (omega (arith, h.0)) h.1).0.long;
+      seconds = λ i l. (All-get_or (IsPair n) k i ([], []) (omega (arith, h.0)) h.1).1.long;
+    }
 
 abbrev Last : ℕ → ℕ → Bool → List ℕ → List ℕ → List ℕ → EvalLists → Type 0
 Last n count relin rs p0 p1 e = AreSwitches n count e.switch × (eval_lists relin rs p0 p1 e.switch ≡ e)

@@ -6,8 +6,12 @@ use Rattle.heco_nums.specs.Needs.{IsRising}
 use Rattle.heco_fields.specs.Formats.{Format, Value, within, many, header_text, ◌>>=◌}
 use Rattle.heco_fields.specs.Runs.{stays}
 use Rattle.heco_scheme.specs.Bounds.{AreWords}
+use Rattle.heco_scheme.specs.Keys.{key_part}
 use Rattle.heco_lists.specs.ListFormat.{words, bytes_text, words_text}
+use Rattle.heco_keys.specs.Amounts.{AreAmounts}
+use Rattle.heco_keys.specs.Made.{all_rows}
 use Rattle.heco_keys.specs.declared.eval.Eval.{Eval}
+use Rattle.heco_material.specs.KeyLists.{KeyLists}
 
 -- ---- secret key: its places
 
@@ -29,6 +33,10 @@ eval_lists relin turns p0 p1 switch = record { relin = relin; turns = turns; p0 
 
 abbrev pub lists_of : Eval → EvalLists
 lists_of e = eval_lists e.needs.relin e.needs.turns e.p0 e.p1 (map (λ k. k.rows) e.switch)
+
+-- what is made of key material: the public key (-(a s + e), a), and the switch keys of relinearisation, or not, and of these turns
+unfoldable pub made_key : ℕ → Bool → List ℕ → KeyLists → EvalLists
+made_key n relin turns k = eval_lists relin turns (key_part n k.s k.a k.e) k.a (all_rows n k.s relin turns k.switch)
 
 abbrev pub bit : Bool → ℕ
 bit b = if b then 1 else 0
@@ -88,7 +96,7 @@ IsSwitchKey n rows = (length rows ≡ 29) × All (IsPair n) rows
 -- turns by 1 to slots - 1, which rise
 pub record AreTurns (slots : ℕ) (rs : List ℕ) : Type 0 where
   pub rising : IsRising rs
-  pub amounts : All (λ r. (1 ≤ r) × (r < slots)) rs
+  pub amounts : AreAmounts slots rs
 
 -- an evaluation key of a preset of this degree and so many slots
 pub record AreEvalLists (n slots : ℕ) (e : EvalLists) : Type 0 where

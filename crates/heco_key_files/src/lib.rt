@@ -4,6 +4,7 @@
 mod error;
 mod evaluation;
 mod header;
+mod laws;
 mod read_key;
 mod read_switch;
 mod secret;
@@ -12,6 +13,7 @@ mod writing;
 pub use error::FileErr;
 pub use evaluation::read_eval;
 pub use header::{behind_header, place};
+pub use laws::made_keys_have_a_file;
 pub use read_switch::poly_at;
 pub use secret::{read_secret, write_secret};
 pub use writing::{put_poly, write_eval};

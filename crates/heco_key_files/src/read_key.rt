@@ -1,11 +1,15 @@
-ghost use Rattle.std.specs.Prelude.{◌≡◌, ◌<◌, IfOk, length};
+ghost use Rattle.std.specs.Prelude.{◌≡◌, ◌<◌, All, IfOk, length, map};
 ghost use Rattle.heco_nums.specs.Needs.{IsRising};
+ghost use Rattle.heco_fields.specs.Formats.{many};
 ghost use Rattle.heco_fields.specs.Readings.{Gives, reading};
-ghost use Rattle.heco_key_files.specs.KeyFiles.{evaluation, lists_of, turns};
+ghost use Rattle.heco_fields.specs.Runs.{stays};
+ghost use Rattle.heco_scheme.specs.Keys.{AreRows};
+ghost use Rattle.heco_keys.specs.Amounts.{AreAmounts};
+ghost use Rattle.heco_key_files.specs.KeyFiles.{evaluation, lists_of, switch_key, turns};
 
 use crate::read_switch::{poly_at, switches_at, turns_at};
 use heco_fields::{Fault, u8_within, u16_within};
-use heco_keys::Eval;
+use heco_keys::{Eval, SwitchKey};
 use heco_nums::{KeyNeeds, List, Preset};
 use std::alloc::Global;
 
@@ -22,9 +26,23 @@ fn rising_turns_at(alloc: Global, slots: u16, bytes: &[u8]) -> Result<(List<u16>
     requires { 0 < slots }
     ensures read { Gives (λ x. (x.0, x.1.now)) result (reading (turns slots) bytes.now) }
     ensures rising { IfOk result (λ x. IsRising x.0) }
+    ensures amounts { IfOk result (λ x. AreAmounts slots x.0) }
     ensures few { IfOk result (λ x. length x.0 < slots) }
 {
     counted_turns_at(alloc, slots, bytes)
+}
+
+fn keys_at<'a>(
+    alloc: Global,
+    p: &Preset,
+    count: u32,
+    bytes: &'a [u8],
+) -> Result<(List<SwitchKey>, &'a [u8]), Fault>
+    ensures read { Gives (λ x. (map (λ k. k.rows) x.0, x.1.now)) result (reading (many (switch_key p.now.n) stays count 0) bytes.now) }
+    ensures count { IfOk result (λ x. length x.0 ≡ count) }
+    ensures pairs { IfOk result (λ x. All (λ k. AreRows p.now.n k.rows) x.0) }
+{
+    switches_at(alloc, p, count, bytes)
 }
 
 /// The parts of an evaluation key behind the header.
@@ -38,7 +56,7 @@ pub fn eval_at<'a>(alloc: Global, p: &Preset, bytes: &'a [u8]) -> Result<(Eval, 
     let (p0, rest) = poly_at(alloc, p, rest)?;
     let (p1, rest) = poly_at(alloc, p, rest)?;
     let count = u32::from(relin) + turns.len() as u32;
-    let (switch, rest) = switches_at(alloc, p, count, rest)?;
+    let (switch, rest) = keys_at(alloc, p, count, rest)?;
     let needs = KeyNeeds {
         relin: relin == 1,
         turns,

@@ -1,2 +1,3 @@
 pub mod KeySteps
+pub mod MadeRows
 pub mod ReadItems

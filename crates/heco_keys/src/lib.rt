@@ -3,6 +3,7 @@
 
 mod coefficients;
 mod eval;
+mod laws;
 mod make_switch;
 mod making;
 mod masked;
@@ -12,6 +13,7 @@ mod switch_key;
 
 pub use coefficients::poly_of;
 pub use eval::Eval;
+pub use laws::made_keys_are_keys;
 pub use making::make;
 pub use secret::Secret;
 pub use sources::exponent;

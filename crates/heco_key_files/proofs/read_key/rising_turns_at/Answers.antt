@@ -16,3 +16,9 @@ returns-clause-few c =
     let slots = c.args.slots in
     let fits : IsBytes c.args.bytes.now = λ i. omega (arith, c.type_inv.bytes i) in
     read_has (λ x. (x.0, x.1.now)) (turns_format slots) turns_text (AreTurns slots) (turns_law slots c.requires (omega arith)) c.args.bytes.now c.counted_turns_at.result fits c.counted_turns_at.ensures (λ rs t. few_turns slots rs c.requires t)
+
+pub returns-clause-amounts : goal.returns-clause-amounts
+returns-clause-amounts c =
+    let slots = c.args.slots in
+    let fits : IsBytes c.args.bytes.now = λ i. omega (arith, c.type_inv.bytes i) in
+    read_has (λ x. (x.0, x.1.now)) (turns_format slots) turns_text (AreTurns slots) (turns_law slots c.requires (omega arith)) c.args.bytes.now c.counted_turns_at.result fits c.counted_turns_at.ensures (λ rs t. t.amounts)

@@ -14,7 +14,7 @@ use Rattle.heco_keys.proofs.ReadItems.{read_is, listed_push_seen}
 use Rattle.heco_keys.proofs.making.make_switches.Goals as goal
 
 abbrev item : ℕ → List ℤ → KeyNeeds → List SwitchWords → ℕ → List (List ℕ × List ℕ)
-item n s needs switch j = switch_rows n s (source_of n s (purpose needs j)) (get_or switch j no_rows).rows
+item n s needs switch j = switch_rows n s (source_of n s (purpose needs.relin needs.turns j)) (get_or switch j no_rows).rows
 
 pub loop-j-init : goal.loop-j-init
 loop-j-init c =
@@ -27,10 +27,10 @@ make_switch-requires-clause-words c =
     read_is (IsSwitch k.preset.n k.preset.b) k.switch c.loop-j.j c.get.result.now c.requires.switch c.get.ensures
 
 -- the rows of one key, where what was passed is what the material has there
-made : (n : ℕ) (s s2 : List ℤ) (needs : KeyNeeds) (switch : List SwitchWords) (j : ℕ) (kind : Option ℕ) (w : SwitchWords) (rows : List (List ℕ × List ℕ)) → rows ≡ switch_rows n s2 (source_of n s2 kind) w.rows → s2 ≡ s → kind ≡ purpose needs j → get_or switch j no_rows ≡ w
+made : (n : ℕ) (s s2 : List ℤ) (needs : KeyNeeds) (switch : List SwitchWords) (j : ℕ) (kind : Option ℕ) (w : SwitchWords) (rows : List (List ℕ × List ℕ)) → rows ≡ switch_rows n s2 (source_of n s2 kind) w.rows → s2 ≡ s → kind ≡ purpose needs.relin needs.turns j → get_or switch j no_rows ≡ w
     → rows ≡ item n s needs switch j
 made n s s2 needs switch j kind w rows r_is s_is kind_is w_is =
-    r_is ∙ ap (λ t. switch_rows n t (source_of n t kind) w.rows) s_is ∙ ap (λ k. switch_rows n s (source_of n s k) w.rows) kind_is ∙ ap (λ (v : SwitchWords). switch_rows n s (source_of n s (purpose needs j)) v.rows) (sym w_is)
+    r_is ∙ ap (λ t. switch_rows n t (source_of n t kind) w.rows) s_is ∙ ap (λ k. switch_rows n s (source_of n s k) w.rows) kind_is ∙ ap (λ (v : SwitchWords). switch_rows n s (source_of n s (purpose needs.relin needs.turns j)) v.rows) (sym w_is)
 
 pub loop-j-preserved : goal.loop-j-preserved
 loop-j-preserved c =

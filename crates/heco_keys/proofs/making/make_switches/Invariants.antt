@@ -7,6 +7,6 @@ use Rattle.heco_keys.proofs.making.make_switches.Given as goal
 
 abbrev pub invariant-loop-j : goal.invariant-loop-j
 invariant-loop-j l = record {
-  rows : map (λ (key : SwitchKey). key.rows) l.keys ≡ listed l.j (λ j. switch_rows l.k.preset.n l.k.s (source_of l.k.preset.n l.k.s (purpose l.k.needs j)) (get_or l.k.switch j no_rows).rows);
+  rows : map (λ (key : SwitchKey). key.rows) l.keys ≡ listed l.j (λ j. switch_rows l.k.preset.n l.k.s (source_of l.k.preset.n l.k.s (purpose l.k.needs.relin l.k.needs.turns j)) (get_or l.k.switch j no_rows).rows);
   long : length l.keys ≡ l.j;
 }

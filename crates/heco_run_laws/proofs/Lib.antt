@@ -1,0 +1,11 @@
+pub mod GateWords
+pub mod GateSteps
+pub mod Wires
+pub mod RowLists
+pub mod RowsOfMessages
+pub mod Carried
+pub mod FoundKeys
+pub mod GateKeys
+pub mod Shapes
+pub mod Measured
+pub mod DecryptedRows

@@ -1,0 +1,6 @@
+pub mod Runs
+pub mod Messages
+pub mod Carried
+pub mod Measured
+pub mod DecryptedRows
+pub mod CircuitKeys
