@@ -71,20 +71,20 @@ encrypted_push p key rows inputs i v cs c whole lr li is total =
 
 -- ---- decrypted wires behind each other
 
-wires_step : (p : Preset) (s : List ℤ) (wires : List Bool) (i : ℕ) (left : List (List (List ℕ))) → i < length wires
-    → decrypted_wires p s (drop i wires) left ≡ next_slots p s (get_or wires i false) left ∷ decrypted_wires p s (drop (i + 1) wires) (behind_next (get_or wires i false) left)
-wires_step p s wires i left lt =
-    ap (λ w. decrypted_wires p s w left) (drop-cons wires i false lt)
-    ∙ ap (λ n. next_slots p s (get_or wires i false) left ∷ decrypted_wires p s (drop n wires) (behind_next (get_or wires i false) left)) (sym (add-one i))
+wires_step : (p : Preset) (e : ℕ) (s : List ℤ) (wires : List Bool) (i : ℕ) (left : List (List (List ℕ))) → i < length wires
+    → decrypted_wires p e s (drop i wires) left ≡ next_slots p e s (get_or wires i false) left ∷ decrypted_wires p e s (drop (i + 1) wires) (behind_next (get_or wires i false) left)
+wires_step p e s wires i left lt =
+    ap (λ w. decrypted_wires p e s w left) (drop-cons wires i false lt)
+    ∙ ap (λ n. next_slots p e s (get_or wires i false) left ∷ decrypted_wires p e s (drop n wires) (behind_next (get_or wires i false) left)) (sym (add-one i))
 
 -- one more of them
-pub wires_push : (p : Preset) (s : List ℤ) (wires : List Bool) (i : ℕ) (left : List (List (List ℕ))) (rows : List (List ℕ)) (row : List ℕ) (whole : List (List ℕ)) → i < length wires
-    → row ≡ next_slots p s (get_or wires i false) left → rows ++ decrypted_wires p s (drop i wires) left ≡ whole
-    → (rows ++ row ∷ []) ++ decrypted_wires p s (drop (i + 1) wires) (behind_next (get_or wires i false) left) ≡ whole
-wires_push p s wires i left rows row whole lt is total =
-    append_assoc rows (row ∷ []) (decrypted_wires p s (drop (i + 1) wires) (behind_next (get_or wires i false) left))
-    ∙ ap (λ x. rows ++ x ∷ decrypted_wires p s (drop (i + 1) wires) (behind_next (get_or wires i false) left)) is
-    ∙ ap (λ (xs : List (List ℕ)). rows ++ xs) (sym (wires_step p s wires i left lt)) ∙ total
+pub wires_push : (p : Preset) (e : ℕ) (s : List ℤ) (wires : List Bool) (i : ℕ) (left : List (List (List ℕ))) (rows : List (List ℕ)) (row : List ℕ) (whole : List (List ℕ)) → i < length wires
+    → row ≡ next_slots p e s (get_or wires i false) left → rows ++ decrypted_wires p e s (drop i wires) left ≡ whole
+    → (rows ++ row ∷ []) ++ decrypted_wires p e s (drop (i + 1) wires) (behind_next (get_or wires i false) left) ≡ whole
+wires_push p e s wires i left rows row whole lt is total =
+    append_assoc rows (row ∷ []) (decrypted_wires p e s (drop (i + 1) wires) (behind_next (get_or wires i false) left))
+    ∙ ap (λ x. rows ++ x ∷ decrypted_wires p e s (drop (i + 1) wires) (behind_next (get_or wires i false) left)) is
+    ∙ ap (λ (xs : List (List ℕ)). rows ++ xs) (sym (wires_step p e s wires i left lt)) ∙ total
 
 pub behind_all : (P : List (List ℕ) → Type 0) (wire : Bool) (left : List (List (List ℕ))) → All P left → All P (behind_next wire left)
 behind_all P false left h = h

@@ -9,7 +9,7 @@ use Rattle.heco_meaning.specs.Meanings.{output_values}
 use Rattle.heco_nums.specs.declared.preset.Preset.{Preset}
 use Rattle.heco_nums.specs.declared.shape.Shape.{Shape}
 use Rattle.heco_scheme.specs.Encryption.{decrypted}
-use Rattle.heco_slots.specs.Slots.{decoded}
+use Rattle.heco_slots.specs.Rows.{first_row, row_of}
 use Rattle.heco_texts.specs.Outputs.{output_text}
 
 -- ---- the wires of outputs
@@ -33,17 +33,17 @@ output_wires c = map (is_output_wire c.outputs) (range_with_len 0 (wire_count c)
 unfoldable pub output_wire_count : Circuit → ℕ
 output_wire_count c = count_by (λ b. b) (output_wires c)
 
--- ---- the slots of these wires
+-- ---- the slots of these wires, in one row
 
--- the slots of the plaintext that the ciphertext decrypts to
-unfoldable pub decrypted_slots : Preset → List ℤ → List (List ℕ) → List ℕ
-decrypted_slots p s c = decoded p (decrypted p s c)
+-- the slots in the row e of the plaintext that the ciphertext decrypts to
+unfoldable pub decrypted_slots : Preset → ℕ → List ℤ → List (List ℕ) → List ℕ
+decrypted_slots p e s c = row_of p e (decrypted p s c)
 
 -- an output's wire has the slots of the next ciphertext, another wire none
-abbrev pub next_slots : Preset → List ℤ → Bool → List (List (List ℕ)) → List ℕ
-next_slots p s false cs = []
-next_slots p s true [] = []
-next_slots p s true (c ∷ cs) = decrypted_slots p s c
+abbrev pub next_slots : Preset → ℕ → List ℤ → Bool → List (List (List ℕ)) → List ℕ
+next_slots p e s false cs = []
+next_slots p e s true [] = []
+next_slots p e s true (c ∷ cs) = decrypted_slots p e s c
 
 abbrev pub behind_next : {A : Type 0} → Bool → List A → List A
 behind_next false cs = cs
@@ -51,9 +51,9 @@ behind_next true [] = []
 behind_next true (c ∷ cs) = cs
 
 -- for each wire its slots: the outputs' wires take the ciphertexts in order
-abbrev pub decrypted_wires : Preset → List ℤ → List Bool → List (List (List ℕ)) → List (List ℕ)
-decrypted_wires p s [] cs = []
-decrypted_wires p s (wire ∷ wires) cs = next_slots p s wire cs ∷ decrypted_wires p s wires (behind_next wire cs)
+abbrev pub decrypted_wires : Preset → ℕ → List ℤ → List Bool → List (List (List ℕ)) → List (List ℕ)
+decrypted_wires p e s [] cs = []
+decrypted_wires p e s (wire ∷ wires) cs = next_slots p e s wire cs ∷ decrypted_wires p e s wires (behind_next wire cs)
 
 -- ---- the text
 
@@ -61,6 +61,10 @@ decrypted_wires p s (wire ∷ wires) cs = next_slots p s wire cs ∷ decrypted_w
 abbrev pub shape_of : Output → Shape
 shape_of o = record { name = o.name; len = length o.cells }
 
--- each output with its elements: its numbers, and the slots of its wires
-unfoldable pub outputs_text : Preset → Circuit → List ℤ → List (List (List ℕ)) → List ℕ
-outputs_text p c s cs = output_text (map shape_of c.outputs) (map (output_values (decrypted_wires p s (output_wires c) cs)) c.outputs)
+-- each output with its elements: its numbers, and the slots of its wires in the row e
+unfoldable pub row_text : Preset → ℕ → Circuit → List ℤ → List (List (List ℕ)) → List ℕ
+row_text p e c s cs = output_text (map shape_of c.outputs) (map (output_values (decrypted_wires p e s (output_wires c) cs)) c.outputs)
+
+-- in the first row
+abbrev pub outputs_text : Preset → Circuit → List ℤ → List (List (List ℕ)) → List ℕ
+outputs_text p c s cs = row_text p first_row c s cs

@@ -1,23 +1,35 @@
 -- The file of a circuit's encrypted inputs.
-use Rattle.std.specs.Prelude.{ℕ, List, [], ◌∷◌}
+use Rattle.std.specs.Prelude.{ℕ, List, [], ◌∷◌, map}
 use Rattle.heco_ciphertext_files.specs.CiphertextFiles.{file_text, magic_of}
 use Rattle.heco_ciphertext_files.specs.declared.kind.FileKind.TheVariants.{Cts}
 use Rattle.heco_key_files.specs.KeyFiles.{EvalLists}
 use Rattle.heco_material.specs.declared.words.EncRow.{EncRow}
-use Rattle.heco_meaning.specs.Meanings.{filled}
 use Rattle.heco_nums.specs.declared.preset.Preset.{Preset}
+use Rattle.heco_run_laws.specs.Messages.{input_message}
 use Rattle.heco_scheme.specs.Encryption.{encrypted}
-use Rattle.heco_slots.specs.Slots.{encoded}
 
--- the plaintext whose slots are the values, and then zeros, encrypted by a row of the material from the public key
-unfoldable pub encrypted_input : Preset → EvalLists → EncRow → List ℕ → List (List ℕ)
-encrypted_input p key row values = encrypted p key.p0 key.p1 row.u row.e1 row.e2 (encoded p (filled p.slots values))
+-- ---- of any messages
 
--- one for each input in order, by the rows of the material and of the values
+-- the message encrypted by a row of the material from the public key
+unfoldable pub encrypted_message : Preset → EvalLists → EncRow → List ℕ → List (List ℕ)
+encrypted_message p key row m = encrypted p key.p0 key.p1 row.u row.e1 row.e2 m
+
+-- one for each message in order, by the rows of the material
+abbrev pub encrypted_messages : Preset → EvalLists → List EncRow → List (List ℕ) → List (List (List ℕ))
+encrypted_messages p key [] messages = []
+encrypted_messages p key (row ∷ rows) [] = []
+encrypted_messages p key (row ∷ rows) (m ∷ messages) = encrypted_message p key row m ∷ encrypted_messages p key rows messages
+
+unfoldable pub messages_file : Preset → EvalLists → List EncRow → List (List ℕ) → List ℕ
+messages_file p key rows messages = file_text (magic_of Cts) p.id (encrypted_messages p key rows messages)
+
+-- ---- of inputs: the message is the plaintext whose slots are the values, and then zeros
+
+abbrev pub encrypted_input : Preset → EvalLists → EncRow → List ℕ → List (List ℕ)
+encrypted_input p key row values = encrypted_message p key row (input_message p values)
+
 abbrev pub encrypted_inputs : Preset → EvalLists → List EncRow → List (List ℕ) → List (List (List ℕ))
-encrypted_inputs p key [] inputs = []
-encrypted_inputs p key (row ∷ rows) [] = []
-encrypted_inputs p key (row ∷ rows) (values ∷ inputs) = encrypted_input p key row values ∷ encrypted_inputs p key rows inputs
+encrypted_inputs p key rows inputs = encrypted_messages p key rows (map (input_message p) inputs)
 
-unfoldable pub inputs_file : Preset → EvalLists → List EncRow → List (List ℕ) → List ℕ
-inputs_file p key rows inputs = file_text (magic_of Cts) p.id (encrypted_inputs p key rows inputs)
+abbrev pub inputs_file : Preset → EvalLists → List EncRow → List (List ℕ) → List ℕ
+inputs_file p key rows inputs = messages_file p key rows (map (input_message p) inputs)

@@ -1,3 +1,5 @@
 pub mod PresetRows
+pub mod KeyProducts
 pub mod Encrypting
 pub mod Decrypting
+pub mod Results

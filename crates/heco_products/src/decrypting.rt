@@ -2,6 +2,7 @@ ghost use Rattle.std.specs.Prelude.{◌≡◌, ◌≤◌, IfOk, All, length, map
 ghost use Rattle.heco_scheme.specs.Ciphertexts.{IsCiphertext};
 ghost use Rattle.heco_ciphertext_files.specs.CiphertextFiles.{AreCiphertexts};
 ghost use Rattle.heco_products.specs.Decrypting.{behind_next, decrypted_slots, decrypted_wires, next_slots, output_wire_count, outputs_text, shape_of};
+ghost use Rattle.heco_slots.specs.Rows.{first_row};
 
 use crate::wires::output_wires;
 use heco_bfv::{Ct, Scratch, decrypt};
@@ -14,7 +15,7 @@ use heco_slots::SlotTable;
 use std::alloc::Global;
 
 // The slots that a ciphertext decrypts to.
-#[tactic(auto, unfolding(crate::specs::Decrypting::decrypted_slots))]
+#[tactic(auto)]
 fn decrypt_slots(
     alloc: Global,
     key: &Secret,
@@ -26,7 +27,7 @@ fn decrypt_slots(
     requires scratch { scratch.old.preset ≡ key.now.preset }
     requires ciphertext { IsCiphertext key.now.preset.n c.now }
     ensures scratch { scratch.new.preset ≡ key.now.preset }
-    ensures slots { IfOk result (λ row. row ≡ decrypted_slots key.now.preset key.now.places c.now) }
+    ensures slots { IfOk result (λ row. row ≡ decrypted_slots key.now.preset first_row key.now.places c.now) }
 {
     let mut row = vec![in alloc; 0; key.preset().slots as usize]?;
     decrypt(key, table, c, row.as_mut_slice(), scratch);
@@ -46,7 +47,7 @@ fn wire_slots(
     requires scratch { scratch.old.preset ≡ key.now.preset }
     requires ciphertexts { All (IsCiphertext key.now.preset.n) left.now }
     ensures scratch { scratch.new.preset ≡ key.now.preset }
-    ensures slots { IfOk result (λ row. row ≡ next_slots key.now.preset key.now.places is_output left.now) }
+    ensures slots { IfOk result (λ row. row ≡ next_slots key.now.preset first_row key.now.places is_output left.now) }
 {
     if !is_output {
         return Ok(List::new(alloc));
@@ -75,7 +76,7 @@ fn decrypt_wires(
     results: &[Ct],
 ) -> Result<List<List<u32>>, Memory>
     requires ciphertexts { All (IsCiphertext key.now.preset.n) results.now }
-    ensures slots { IfOk result (λ rows. rows ≡ decrypted_wires key.now.preset key.now.places wires.now results.now) }
+    ensures slots { IfOk result (λ rows. rows ≡ decrypted_wires key.now.preset first_row key.now.places wires.now results.now) }
 {
     let table = SlotTable::build(alloc, key.preset())?;
     let mut scratch = Scratch::open(alloc, key.preset())?;

@@ -17,7 +17,7 @@ use heco_nums::{Bytes, Inputs, List, Memory};
 use std::alloc::Global;
 
 // Input i: its values, and then zeros, encrypted by row i of the material.
-#[tactic(auto, unfolding(crate::specs::Encrypting::encrypted_input))]
+#[tactic(auto, unfolding(crate::specs::Encrypting::encrypted_message))]
 fn encrypt_input(
     alloc: Global,
     key: &Eval,

@@ -71,10 +71,10 @@ wires_mean p c vs id =
 -- ---- two rows of values
 
 module _ (p : Preset) where
-  length-filled : (v : List ℕ) → FitsRow p v → length (filled p.slots v) ≡ p.slots
+  pub length-filled : (v : List ℕ) → FitsRow p v → length (filled p.slots v) ≡ p.slots
   length-filled v h = omega (arith, h.0, length-append v (replicate (p.slots - length v) 0), length-replicate {A = ℕ} (p.slots - length v) 0)
 
-  filled_below : (v : List ℕ) → FitsRow p v → All (λ x. x < p.t) (filled p.slots v)
+  pub filled_below : (v : List ℕ) → FitsRow p v → All (λ x. x < p.t) (filled p.slots v)
   filled_below v h = All-append (λ x. x < p.t) v (replicate (p.slots - length v) 0) h.1 (All-replicate (λ x. x < p.t) (p.slots - length v) 0 (facts p).t_pos)
 
   pub first_rows : (vs ws : List (List ℕ)) → length vs ≡ length ws → All (FitsRow p) vs → map (row_of p first_row) (two_row_messages p vs ws) ≡ map (filled p.slots) vs

@@ -3,9 +3,10 @@ use Rattle.std.specs.Prelude.{All, IfOk}
 use Rattle.std.proofs.lemmas.List.{length-map}
 use Rattle.heco_meaning.specs.Meanings.{output_values}
 use Rattle.heco_texts.specs.Outputs.{output_text}
-use Rattle.heco_products.specs.Decrypting.{outputs_text, output_wires, decrypted_wires, shape_of}
+use Rattle.heco_products.specs.Decrypting.{row_text, output_wires, decrypted_wires, shape_of}
 use Rattle.heco_products.proofs.CircuitFacts.{short_outputs}
 use Rattle.heco_products.proofs.Products.{are_ciphertexts}
+use Rattle.heco_slots.specs.Rows.{first_row}
 use Rattle.heco_products.proofs.decrypting.outputs_text.Goals as goal
 
 pub shapes_of-requires : goal.shapes_of-requires
@@ -15,10 +16,10 @@ pub print_outputs-requires : goal.print_outputs-requires
 print_outputs-requires c = ap length c.in_ok-rows.ensures ∙ length-map c.as_slice-outputs.result.now _ ∙ sym (ap length c.in_ok-shapes.ensures ∙ length-map c.as_slice-outputs.result.now _)
 
 pub returns : goal.returns
-unfolding outputs_text
+unfolding row_text
 returns c =
     let outputs = c.args.circuit.now.outputs in
-    let slots_of : List Bool → List (List ℕ) = λ wires. decrypted_wires c.args.key.now.preset c.args.key.now.places wires c.args.results.now in
+    let slots_of : List Bool → List (List ℕ) = λ wires. decrypted_wires c.args.key.now.preset first_row c.args.key.now.places wires c.args.results.now in
     let same : c.as_slice-outputs.result.now ≡ outputs = c.as_slice-outputs.ensures ∙ c.outputs.ensures in
     let shapes : c.in_ok-shapes.shapes ≡ map shape_of outputs = c.in_ok-shapes.ensures ∙ ap (map shape_of) same in
     let slots : c.as_slice-2.result.now ≡ slots_of (output_wires c.args.circuit.now) = c.as_slice-2.ensures ∙ c.in_ok-slots.ensures.slots ∙ ap slots_of (c.as_slice.ensures.value ∙ c.in_ok-wires.ensures.marked) in

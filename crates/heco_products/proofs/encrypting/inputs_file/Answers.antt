@@ -4,7 +4,7 @@ use Rattle.heco_ciphertext_files.specs.CiphertextFiles.{file_text, magic_of}
 use Rattle.heco_ciphertext_files.specs.declared.kind.FileKind.TheVariants.{Cts}
 use Rattle.heco_key_files.specs.KeyFiles.{lists_of}
 use Rattle.heco_nums.specs.Presets.{slots_of}
-use Rattle.heco_products.specs.Encrypting.{inputs_file, encrypted_inputs}
+use Rattle.heco_products.specs.Encrypting.{messages_file, encrypted_inputs}
 use Rattle.heco_products.proofs.CircuitFacts.{few_inputs, short_inputs}
 use Rattle.heco_products.proofs.Products.{fit_count, fit_below, fit_short}
 use Rattle.heco_products.proofs.encrypting.inputs_file.Goals as goal
@@ -30,7 +30,7 @@ encrypt_inputs-requires-clause-below c =
     subst (All (λ row. All (λ x. x < t) row)) (sym c.as_slice.ensures) (fit_below t c.args.circuit.now.inputs c.args.inputs.now.rows c.requires.fit)
 
 pub returns : goal.returns
-unfolding inputs_file
+unfolding messages_file
 returns c =
     let p = c.args.key.now.preset in
     let all = encrypted_inputs p (lists_of c.args.key.now) c.args.material.now.rows in

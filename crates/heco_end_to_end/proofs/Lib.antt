@@ -1,0 +1,4 @@
+pub mod FreshInputs
+pub mod OutputWires
+pub mod DecryptedRuns
+pub mod InARow
