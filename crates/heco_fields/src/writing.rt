@@ -1,4 +1,4 @@
-ghost use Rattle.std.specs.Prelude.{◌≡◌, ◌++◌, OnOk, OnErr};
+ghost use Rattle.std.specs.Prelude.{◌≡◌, ◌++◌, OnOk, OnErr, length, take};
 ghost use Rattle.std.specs.Int.{w8, w16, w32, w64, to_be_bytes, cast_unsigned};
 ghost use Rattle.heco_fields.specs.Formats.{header_text};
 
@@ -42,9 +42,10 @@ pub fn put_i8(out: &mut Bytes, n: i8) -> Result<(), Memory>
     out.push(n.cast_unsigned())
 }
 
-/// Puts the magic, version 1, and the number of a preset.
+/// Puts the magic, version 1, and the number of a preset. Where memory is wanting the old bytes stand.
 pub fn put_header(out: &mut Bytes, magic: &[u8], id: u8) -> Result<(), Memory>
     ensures ok { OnOk result (out.new ≡ out.old ++ header_text magic.now id) }
+    ensures err { OnErr result (take (length out.old) out.new ≡ out.old) }
 {
     out.extend_from_slice(magic)?;
     out.extend_from_slice([1, id].as_slice())
