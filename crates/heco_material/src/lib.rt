@@ -15,6 +15,3 @@ pub use heco_draw::draw_values;
 pub use reading::{read_enc, read_keys};
 pub use words::{EncRow, EncWords, KeyWords, SwitchRow, SwitchWords};
 pub use writing::{write_enc, write_keys};
-
-#[cfg(test)]
-mod tests;
