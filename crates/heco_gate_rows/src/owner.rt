@@ -1,10 +1,10 @@
-ghost use Rattle.std.specs.Prelude.{◌≡◌, ◌<◌, ℕ, All, IfOk, length, slice_get, Some};
+ghost use Rattle.std.specs.Prelude.{◌≡◌, ◌<◌, All, IfOk, length};
 ghost use Rattle.heco_material.specs.KeyLists.{key_count, lists_of, IsEncMaterial, IsKeyMaterial};
 ghost use Rattle.heco_scheme.specs.Ciphertexts.{IsCiphertext};
 ghost use Rattle.heco_scheme.specs.Keys.{AreRows};
-ghost use Rattle.heco_keys.specs.declared.switch_key.SwitchKey.{SwitchKey as Key};
+ghost use Rattle.heco_keys.specs.Amounts.{AreAmounts};
 
-use heco_bfv::{Ct, Scratch, decrypt, encrypt};
+use heco_bfv::{Ct, Scratch, decrypt, decrypt_after_encrypt, encrypt};
 use heco_keys::{Eval, Secret, SwitchKey, make};
 use heco_material::{EncWords, KeyWords, MatErr, read_enc, read_keys};
 use heco_nums::{KeyNeeds, Memory, Preset};
@@ -17,11 +17,11 @@ pub struct Owner {
     pub secret: Secret,
     pub eval: Eval,
     ghost one_preset: { secret.preset ≡ eval.preset },
-    ghost rows: { (j : ℕ) (key : Key) → slice_get eval.switch j ≡ Some key → AreRows eval.preset.n key.rows },
 }
 
 fn made(alloc: Global, k: &KeyWords) -> Result<Owner, Memory>
-    requires { let p = k.now.preset in IsKeyMaterial p.n p.h p.b (key_count k.now.needs) (lists_of k.now) }
+    requires material { let p = k.now.preset in IsKeyMaterial p.n p.h p.b (key_count k.now.needs) (lists_of k.now) }
+    requires amounts { AreAmounts k.now.preset.slots k.now.needs.turns }
     ensures { IfOk result (λ o. o.eval.preset ≡ k.now.preset) }
 {
     let (secret, eval) = make(alloc, k)?;
@@ -30,6 +30,7 @@ fn made(alloc: Global, k: &KeyWords) -> Result<Owner, Memory>
 
 /// The keys of a file's material.
 pub fn keys_of(alloc: Global, p: &Preset, needs: &KeyNeeds, file: &[u8]) -> Result<Owner, MatErr>
+    requires { AreAmounts p.now.slots needs.now.turns }
     ensures { IfOk result (λ o. o.eval.preset ≡ p.now) }
 {
     let k = read_keys(alloc, p, needs, file)?;
@@ -68,6 +69,37 @@ pub fn opened(alloc: Global, o: &Owner, c: &Ct) -> Result<Vec<u32>, Memory>
     let mut out = vec![in alloc; 0; p.slots as usize]?;
     decrypt(&o.secret, &table, c, out.as_mut_slice(), &mut scratch);
     Ok(out)
+}
+
+fn back_by(alloc: Global, k: &KeyWords, w: &EncWords, slots: &[u32]) -> Result<Vec<u32>, Memory>
+    requires keys { let p = k.now.preset in IsKeyMaterial p.n p.h p.b (key_count k.now.needs) (lists_of k.now) }
+    requires amounts { AreAmounts k.now.preset.slots k.now.needs.turns }
+    requires preset { w.now.preset ≡ k.now.preset }
+    requires words { let p = k.now.preset in IsEncMaterial p.n p.h p.b 1 w.now.rows }
+    requires slots { length slots.now ≡ k.now.preset.slots }
+    requires below { All (λ x. x < k.now.preset.t) slots.now }
+{
+    let mut out = vec![in alloc; 0; k.preset.slots as usize]?;
+    decrypt_after_encrypt(alloc, k, w, 0, slots, out.as_mut_slice())?;
+    Ok(out)
+}
+
+/// What encrypting by two files' material and decrypting gives.
+pub fn back(
+    alloc: Global,
+    p: &Preset,
+    needs: &KeyNeeds,
+    keys: &[u8],
+    words: &[u8],
+    slots: &[u32],
+) -> Result<Vec<u32>, MatErr>
+    requires amounts { AreAmounts p.now.slots needs.now.turns }
+    requires slots { length slots.now ≡ p.now.slots }
+    requires below { All (λ x. x < p.now.t) slots.now }
+{
+    let k = read_keys(alloc, p, needs, keys)?;
+    let w = read_enc(alloc, p, 1, words)?;
+    Ok(back_by(alloc, &k, &w, slots)?)
 }
 
 /// The key to relinearise.

@@ -1,7 +1,7 @@
 use crate::decrypted::{opened_product, opened_turn};
 use crate::gates::{constant, constants, difference, multiple, product};
-use crate::material::{file, key_file};
-use crate::owner::{keys_of, opened, sealed};
+use crate::material::{file, key_file, second_words};
+use crate::owner::{back, keys_of, opened, sealed};
 use heco_nums::{KeyNeeds, List, Preset};
 use std::test::Fail;
 
@@ -22,6 +22,31 @@ fn an_encryption_by_hand(rt: HostRuntime) -> Result<(), Fail> {
     assert_eq!(rt; constant(&c, 0), Some(0x03fffffffffffffd));
     assert_eq!(rt; constant(&c, 1), Some(4));
     assert_eq!(rt; opened(alloc, &o, &c)?.as_slice(), [0; 8].as_slice());
+    Ok(())
+}
+
+#[test]
+fn keys_encryption_and_decryption_at_once(rt: HostRuntime) -> Result<(), Fail> {
+    let alloc = rt.alloc();
+    let p = Preset::by_id(1).ok_or("no preset")?;
+    assert_eq!(rt; p.slots, 8);
+    assert_eq!(rt; p.t, 257);
+    let needs = KeyNeeds {
+        relin: true,
+        turns: List::new(alloc),
+    };
+    let keys = key_file(alloc)?;
+    let words = second_words(alloc)?;
+    let slots = [1, 0, 256, 3, 5, 128, 129, 100];
+    let out = back(
+        alloc,
+        &p,
+        &needs,
+        keys.as_slice(),
+        words.as_slice(),
+        slots.as_slice(),
+    )?;
+    assert_eq!(rt; out.as_slice(), slots.as_slice());
     Ok(())
 }
 

@@ -1,14 +1,16 @@
 -- Key material of a circuit: how it is judged, and that the first bytes of its file tell, one more than it has.
-use Rattle.std.proofs.Common.{◌≡◌, ◌≢◌, ◌≤◌, ◌<◌, ◌+◌, ◌-◌, ◌∙◌, ℕ, zero, suc, Bool, true, false, List, ◌∷◌, length, take, Result, Ok, Err, refl, sym, ap, subst, inl, inr, arith}
+use Rattle.std.proofs.Common.{◌≡◌, ◌≢◌, ◌≤◌, ◌<◌, ◌+◌, ◌-◌, ◌*◌, ◌∙◌, ℕ, zero, suc, Bool, true, false, List, ◌∷◌, length, take, Result, Ok, Err, refl, sym, ap, subst, inl, inr, arith}
 use Rattle.std.specs.Prelude.{if◌then◌else◌, ◌==◌, IfOk, IfErr, map, min}
 use Rattle.std.proofs.lemmas.List.{length-take-le}
 use Rattle.std.proofs.lemmas.Bool.{cases_lt}
-use Rattle.heco_circuit.specs.Needs.{needs_relin, needed_turns, occurring}
+use Rattle.heco_circuit.specs.Needs.{needs_relin, needed_turns, needed_keys, occurring}
+use Rattle.heco_circuit.proofs.Rising.{needed_amounts}
 use Rattle.heco_circuit.specs.declared.gate.Gate.{Gate}
 use Rattle.heco_circuit.specs.Plans.{Plan as Circuit}
 use Rattle.heco_fields.proofs.FileLaws.{text_judged}
-use Rattle.heco_key_files.specs.KeyFiles.{eval_lists, eval_text, secret_text, lists_of as eval_lists_of}
-use Rattle.heco_keys.specs.Made.{all_rows, purpose}
+use Rattle.heco_key_files.specs.KeyFiles.{eval_lists, made_key, eval_text, secret_text, lists_of as eval_lists_of}
+use Rattle.heco_keys.specs.Amounts.{AreAmounts}
+use Rattle.heco_keys.specs.Made.{all_rows}
 use Rattle.heco_keys.specs.declared.eval.Eval.{Eval}
 use Rattle.heco_scheme.specs.Keys.{key_part}
 use Rattle.heco_material.proofs.KeyLaws.{keys_law, keys_long}
@@ -18,6 +20,7 @@ use Rattle.heco_material.specs.MaterialFile.{HasCause, Answers}
 use Rattle.heco_material.specs.declared.error.MatErr.{MatErr}
 use Rattle.heco_material.specs.declared.error.MatErr.TheVariants as material
 use Rattle.heco_material.specs.declared.words.KeyWords.{KeyWords}
+use Rattle.heco_nums.proofs.PresetFacts.{facts}
 use Rattle.heco_nums.specs.Presets.{degree_of, slots_of, weight_of, error_of}
 use Rattle.heco_nums.specs.declared.needs.KeyNeeds.{KeyNeeds}
 use Rattle.heco_nums.specs.declared.preset.Preset.{Preset}
@@ -26,7 +29,7 @@ use Rattle.heco_top.specs.declared.outcome.Outcome.TheVariants.{Ok as Fine, Refu
 use Rattle.heco_top.specs.declared.outcome.Refusal.{Refusal}
 use Rattle.heco_top.specs.declared.outcome.Refusal.TheVariants.{Usage, SourceLong, At, InputLong, InputAt, InputMissing, Length, Bounds, Malformed, Noisy, WrongPreset, Count}
 use Rattle.heco_top.specs.declared.product.Product.{Product}
-use Rattle.heco_top.specs.CircuitFiles.{SpellsKeys, IsKeysRefusal, SpellsMaterial, IsMaterialRefusal, material_length, needed_keys, made_key, switches_of, purpose_of, secret_file, evaluation_file}
+use Rattle.heco_top.specs.CircuitFiles.{SpellsKeys, IsKeysRefusal, SpellsMaterial, IsMaterialRefusal, material_length, secret_file, evaluation_file}
 use Rattle.heco_top.specs.Commands.{Stores, two_files}
 use Rattle.heco_top.specs.Reads.{Judges, seen, material_answer}
 use Rattle.heco_top.proofs.InputLaws.{cut_first, cut_whole}
@@ -158,10 +161,18 @@ few_turns c = omega (arith, few_occurring c.gates 1 (slots_of c.preset - 1), slo
 
 -- ---- the keys that are made
 
+slots_pos : (n s : ℕ) → 0 < n → n ≡ 2 * s → 0 < s
+slots_pos n s p e = omega arith
+
+-- the turns of a circuit's material are of its preset
+pub material_amounts : (c : Circuit) (p : Preset) (turns : List ℕ) → p.id ≡ c.preset → turns ≡ needed_turns c → AreAmounts p.slots turns
+material_amounts c p turns id e =
+    subst (AreAmounts p.slots) (sym e) (needed_amounts c p.slots (ap slots_of (sym id) ∙ sym p.row.3) (slots_pos p.n p.slots (facts p).n_pos (facts p).slots_half))
+
 -- the evaluation key of these parts has these lists
-pub made_is : (k : KeyWords) (e : Eval) → e.needs.relin ≡ k.needs.relin → e.needs.turns ≡ k.needs.turns → e.p0 ≡ key_part k.preset.n k.s k.a k.e → e.p1 ≡ k.a → map (λ key. key.rows) e.switch ≡ all_rows k.preset.n k.s k.needs k.switch
+pub made_is : (k : KeyWords) (e : Eval) → e.needs.relin ≡ k.needs.relin → e.needs.turns ≡ k.needs.turns → e.p0 ≡ key_part k.preset.n k.s k.a k.e → e.p1 ≡ k.a → map (λ key. key.rows) e.switch ≡ all_rows k.preset.n k.s k.needs.relin k.needs.turns k.switch
     → eval_lists_of e ≡ made_key k.preset.n k.needs.relin k.needs.turns (lists_of k)
-unfolding made_key switches_of purpose_of all_rows purpose
+unfolding made_key
 made_is k e relin turns first second switch =
     ap (λ r. eval_lists r e.needs.turns e.p0 e.p1 (map (λ key. key.rows) e.switch)) relin
     ∙ (ap (λ ts. eval_lists k.needs.relin ts e.p0 e.p1 (map (λ key. key.rows) e.switch)) turns

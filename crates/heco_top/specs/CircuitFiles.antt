@@ -1,20 +1,17 @@
 -- The files that are made for a circuit, as functions of it, of a seed and of its key material, and how a file of either is refused.
 use Rattle.std.specs.Prelude.{◌≡◌, ℕ, ◌+◌, ◌-◌, Bool, ◌==◌, List, length, Option, Some, None, if◌then◌else◌}
-use lib.ListN.{get_or}
 use Rattle.heco_nums.specs.Presets.{degree_of, weight_of, error_of}
 use Rattle.heco_circuit.specs.Plans.{Plan as Circuit}
 use Rattle.heco_circuit.specs.CircuitFile.{FileBreaksAt, IsNoisyFile}
-use Rattle.heco_circuit.specs.Needs.{needs_relin, needed_turns}
-use Rattle.heco_scheme.specs.Keys.{key_part}
-use Rattle.heco_draw.specs.Words.{start, listed}
+use Rattle.heco_circuit.specs.Needs.{needs_relin, needed_turns, needed_keys}
+use Rattle.heco_draw.specs.Words.{start}
 use Rattle.heco_material.specs.declared.error.MatErr.TheVariants as material
 use Rattle.heco_material.specs.Drawn.{drawn_keys, drawn_encryptions}
 use Rattle.heco_material.specs.EncFormat.{encryptions_text}
 use Rattle.heco_material.specs.KeyFormat.{keys, keys_text, keys_length}
 use Rattle.heco_material.specs.KeyLists.{KeyLists, IsKeyMaterial}
 use Rattle.heco_material.specs.MaterialFile.{HasCause}
-use Rattle.heco_keys.specs.Made.{source_of, switch_rows, no_rows}
-use Rattle.heco_key_files.specs.KeyFiles.{EvalLists, eval_lists, eval_text, secret_text}
+use Rattle.heco_key_files.specs.KeyFiles.{made_key, eval_text, secret_text}
 use Rattle.heco_top.specs.declared.outcome.Refusal.{Refusal}
 use Rattle.heco_top.specs.declared.outcome.Refusal.TheVariants.{Length, Bounds, Malformed, Noisy}
 
@@ -27,10 +24,6 @@ IsCircuitRefusal text (Noisy which gate bound) = (which ≡ 1) × IsNoisyFile te
 IsCircuitRefusal text refusal = ⊥
 
 -- ---- key material
-
--- how many switch keys the circuit needs: one to relinearise, and one for each amount of a turn
-abbrev pub needed_keys : Circuit → ℕ
-needed_keys c = (if needs_relin c then 1 else 0) + length (needed_turns c)
 
 -- the text spells key material within these bounds, for so many switch keys
 pub record SpellsKeys (n h b count : ℕ) (text : List ℕ) (k : KeyLists) : Type 0 where
@@ -66,18 +59,6 @@ unfoldable pub encryption_material_file : Circuit → ℕ → List ℕ
 encryption_material_file c seed = encryptions_text (drawn_encryptions (start seed 2) (degree_of c.preset) (weight_of c.preset) (error_of c.preset) (length c.inputs))
 
 -- ---- what is made of key material
-
--- what switch key j is for: relinearisation first, and then the turns in order
-unfoldable pub purpose_of : Bool → List ℕ → ℕ → Option ℕ
-purpose_of relin turns j = if relin then if j == 0 then None else Some (get_or turns (j - 1) 0) else Some (get_or turns j 0)
-
--- the rows of each switch key
-unfoldable pub switches_of : ℕ → Bool → List ℕ → KeyLists → List (List (List ℕ × List ℕ))
-switches_of n relin turns k = listed (length k.switch) (λ j. switch_rows n k.s (source_of n k.s (purpose_of relin turns j)) (get_or k.switch j no_rows).rows)
-
--- the public key (-(a s + e), a), and the switch keys of relinearisation and of these turns
-unfoldable pub made_key : ℕ → Bool → List ℕ → KeyLists → EvalLists
-made_key n relin turns k = eval_lists relin turns (key_part n k.s k.a k.e) k.a (switches_of n relin turns k)
 
 unfoldable pub secret_file : Circuit → KeyLists → List ℕ
 secret_file c k = secret_text c.preset k.s

@@ -1,9 +1,10 @@
 ghost use Rattle.std.specs.Prelude.{◌≡◌, IfOk, length};
 ghost use Rattle.heco_circuit.specs.Needs.{needs_relin, needed_turns};
-ghost use Rattle.heco_key_files.specs.KeyFiles.{eval_text, secret_text};
+ghost use Rattle.heco_key_files.specs.KeyFiles.{made_key, eval_text, secret_text};
+ghost use Rattle.heco_keys.specs.Amounts.{AreAmounts};
 ghost use Rattle.heco_listing.specs.Listings.{listing_of};
 ghost use Rattle.heco_material.specs.KeyLists.{lists_of, key_count, IsKeyMaterial};
-ghost use Rattle.heco_top.specs.CircuitFiles.{key_material_file, encryption_material_file, secret_file, evaluation_file, made_key};
+ghost use Rattle.heco_top.specs.CircuitFiles.{key_material_file, encryption_material_file, secret_file, evaluation_file};
 ghost use Rattle.heco_top.specs.Commands.{Prints, Stores, two_files};
 
 use crate::circuit_file::input_count;
@@ -74,7 +75,8 @@ pub fn draw_product(alloc: Global, circuit: &Circuit, seed: u64) -> Result<Produ
 
 /// What `keys` writes of key material within bounds.
 pub fn keys_product(alloc: Global, k: &KeyWords) -> Result<Product, Memory>
-    requires { IsKeyMaterial k.now.preset.n k.now.preset.h k.now.preset.b (key_count k.now.needs) (lists_of k.now) }
+    requires material { IsKeyMaterial k.now.preset.n k.now.preset.h k.now.preset.b (key_count k.now.needs) (lists_of k.now) }
+    requires amounts { AreAmounts k.now.preset.slots k.now.needs.turns }
     ensures { IfOk result (Stores (two_files (secret_text k.now.preset.id k.now.s) (eval_text k.now.preset.id (made_key k.now.preset.n k.now.needs.relin k.now.needs.turns (lists_of k.now))))) }
 {
     let (secret, evaluation) = make(alloc, k)?;

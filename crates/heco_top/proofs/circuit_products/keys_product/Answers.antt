@@ -1,8 +1,7 @@
 use Rattle.std.proofs.Common.{◌≡◌, ◌∙◌, ap, subst}
 use Rattle.std.specs.Prelude.{IfOk}
-use Rattle.heco_key_files.specs.KeyFiles.{eval_text, secret_text, lists_of as eval_lists_of}
+use Rattle.heco_key_files.specs.KeyFiles.{made_key, eval_text, secret_text, lists_of as eval_lists_of}
 use Rattle.heco_material.specs.KeyLists.{lists_of}
-use Rattle.heco_top.specs.CircuitFiles.{made_key}
 use Rattle.heco_top.specs.Commands.{Stores, two_files}
 use Rattle.heco_top.proofs.MaterialLaws.{made_is}
 use Rattle.heco_top.proofs.circuit_products.keys_product.Goals as goal

@@ -1,0 +1,43 @@
+-- The chain from a source to what is decrypted.
+use Rattle.std.proofs.Common.{◌≡◌, ◌∙◌, ℕ, List, Ok, sym, ap, subst}
+use Rattle.heco_nums.specs.Presets.{modulus_of}
+use Rattle.heco_nums.specs.declared.preset.Preset.{Preset}
+use Rattle.heco_nums.specs.declared.shape.Shape.{Shape}
+use Rattle.heco_nums.specs.declared.shape.Values.{Values}
+use Rattle.heco_circuit.specs.Plans.{Plan as Circuit}
+use Rattle.heco_material.specs.KeyLists.{KeyLists}
+use Rattle.heco_material.specs.declared.words.EncRow.{EncRow}
+use Rattle.heco_meaning.specs.Meanings.{meaning_of}
+use Rattle.heco_products.proofs.CircuitFacts.{own_names}
+use Rattle.heco_sources.specs.Inputs.{input_shapes}
+use Rattle.heco_syntax.specs.declared.tree.Source.{Source}
+use Rattle.heco_texts.specs.Answers.{HaveFit, HaveOwnNames}
+use Rattle.heco_texts.specs.Outputs.{output_text}
+use Rattle.heco_texts.proofs.FitLaws.{fits}
+use Rattle.heco_end_to_end.specs.EndToEnd.{IsRunnable}
+use Rattle.heco_end_to_end.proofs.DecryptedRuns.{prints_the_meaning}
+use Rattle.heco_good.specs.Good.{modulus}
+use Rattle.heco_headline.specs.Headline.{IsChain, IsPlainText, printed}
+
+module _ (source : Source) (c : Circuit) (p : Preset) (input : List ℕ) (v : Values) (k : KeyLists) (material : List EncRow) (chain : IsChain source c p input v k material) where
+  own : HaveOwnNames (input_shapes source)
+  own = subst HaveOwnNames chain.good.inputs (own_names c chain.good.valid)
+
+  fit : HaveFit (modulus source) (input_shapes source) v.rows
+  fit = fits (modulus source) (input_shapes source) input (Ok v) own chain.values
+
+  same_modulus : modulus source ≡ p.t
+  same_modulus = sym (p.row.4 ∙ ap modulus_of (chain.preset ∙ chain.good.preset))
+
+  pub runs : IsRunnable p c k material v.rows
+  runs = record {
+    provided = record { preset = chain.preset; valid = chain.good.valid; keys = chain.keys; words = chain.words };
+    fit = subst (λ t. HaveFit t c.inputs v.rows) same_modulus (subst (λ shapes. HaveFit (modulus source) shapes v.rows) (sym chain.good.inputs) fit);
+  }
+
+  pub plain : IsPlainText source v.rows (printed p c k material v)
+  plain = record {
+    outputs = meaning_of c v.rows;
+    executed = chain.good.meaning v.rows fit;
+    is = prints_the_meaning p c k material v.rows runs ∙ ap (λ (shapes : List Shape). output_text shapes (meaning_of c v.rows)) chain.good.outputs;
+  }
