@@ -1,0 +1,91 @@
+-- How long the file of a circuit is at most.
+use Rattle.std.proofs.Common.{◌≡◌, ◌∙◌, refl, sym, ap, ℕ, ◌+◌, ◌*◌, ◌^◌, ◌<◌, ◌≤◌, List, [], ◌∷◌, ◌++◌, map, length, length-append, arith}
+use Rattle.std.specs.Prelude.{codes}
+use Rattle.std.specs.List.{flat_map, sum_by}
+use Rattle.std.specs.Int.{w16, w32, to_be_bytes}
+use Rattle.std.proofs.lemmas.List.{length-map}
+use Rattle.std.proofs.lemmas.List.Sums.{sum_by-cons}
+use Rattle.heco_nums.specs.declared.shape.Shape.{Shape}
+use Rattle.heco_fields.specs.Formats.{header_text}
+use Rattle.heco_circuit.specs.declared.gate.Cell.{Cell}
+use Rattle.heco_circuit.specs.declared.gate.Cell.TheVariants.{Number, Slot}
+use Rattle.heco_circuit.specs.declared.gate.Gate.{Gate}
+use Rattle.heco_circuit.specs.declared.gate.Gate.TheVariants.{Neg, Add, Mul, Relin, Scale, Shift, Turn}
+use Rattle.heco_circuit.specs.declared.gate.Output.{Output}
+use Rattle.heco_circuit.specs.GateFormat.{gate_text}
+use Rattle.heco_circuit.specs.CircuitFormat.{name_text, input_text, cell_text, output_text, inputs_text, gates_text, outputs_text, circuit_text}
+use Rattle.heco_circuit.specs.Plans.{Plan}
+use Rattle.heco_thrift.specs.Placed.{shape_of}
+use Rattle.heco_compile.proofs.Names.{shape_bytes}
+
+gate_short : (g : Gate) → length (gate_text g) ≤ 9
+gate_short (Neg a) = omega arith
+gate_short (Add a b) = omega arith
+gate_short (Mul a b) = omega arith
+gate_short (Relin a) = omega arith
+gate_short (Scale c a) = omega arith
+gate_short (Shift c a) = omega arith
+gate_short (Turn r a) = omega arith
+
+gates_short : (gs : List Gate) → length (flat_map gate_text gs) ≤ 9 * length gs
+gates_short [] = omega arith
+gates_short (g ∷ gs) = omega (arith, length-append (gate_text g) (flat_map gate_text gs), gate_short g, gates_short gs)
+
+cell_short : (c : Cell) → length (cell_text c) ≤ 7
+cell_short (Number n) = omega arith
+cell_short (Slot w s) = omega arith
+
+cells_short : (cs : List Cell) → length (flat_map cell_text cs) ≤ 7 * length cs
+cells_short [] = omega arith
+cells_short (c ∷ cs) = omega (arith, length-append (cell_text c) (flat_map cell_text cs), cell_short c, cells_short cs)
+
+length-name_text : (name : List ℕ) → length (name_text name) ≡ 4 + length name
+length-name_text name = length-append (to_be_bytes w32 (length name)) name
+
+input_short : (s : Shape) → length (input_text s) ≡ 6 + length s.name
+input_short s = let two : length (to_be_bytes w16 s.len) ≡ 2 = refl in omega (arith, length-append (name_text s.name) (to_be_bytes w16 s.len), length-name_text s.name, two)
+
+inputs_short : (xs : List Shape) → length (flat_map input_text xs) ≤ 6 * length xs + shape_bytes xs
+inputs_short [] = omega arith
+inputs_short (x ∷ xs) = omega (arith, length-append (input_text x) (flat_map input_text xs), input_short x, inputs_short xs)
+
+output_short : (o : Output) → length (output_text o) ≤ 6 + length o.name + 7 * length o.cells
+output_short o =
+    let two : length (to_be_bytes w16 (length o.cells)) ≡ 2 = refl in
+    omega (
+      arith,
+      length-append (name_text o.name ++ to_be_bytes w16 (length o.cells)) (flat_map cell_text o.cells),
+      length-append (name_text o.name) (to_be_bytes w16 (length o.cells)),
+      length-name_text o.name,
+      two,
+      cells_short o.cells,
+    )
+
+outputs_short : (os : List Output) → length (flat_map output_text os) ≤ 6 * length os + shape_bytes (map shape_of os) + 7 * sum_by (λ s. s.len) (map shape_of os)
+outputs_short [] = omega arith
+outputs_short (o ∷ os) =
+    omega (
+      arith,
+      length-append (output_text o) (flat_map output_text os),
+      output_short o,
+      outputs_short os,
+      sum_by-cons (λ (s : Shape). s.len) (shape_of o) (map shape_of os),
+    )
+
+whole : (c : Plan) → length (circuit_text c) ≡ length (header_text (codes "HCIR") c.preset) + (length (inputs_text c.inputs) + (length (gates_text c.gates) + length (outputs_text c.outputs)))
+whole c =
+    length-append (header_text (codes "HCIR") c.preset) (inputs_text c.inputs ++ (gates_text c.gates ++ outputs_text c.outputs))
+    ∙ ap (λ n. length (header_text (codes "HCIR") c.preset) + n) (length-append (inputs_text c.inputs) (gates_text c.gates ++ outputs_text c.outputs)
+    ∙ ap (λ n. length (inputs_text c.inputs) + n) (length-append (gates_text c.gates) (outputs_text c.outputs)))
+
+-- a circuit of so many gates, parameters and elements, whose names have 2^20 bytes together
+pub file_short : (c : Plan) (outputs : List Shape) → map shape_of c.outputs ≡ outputs → length c.gates ≤ 20447232 → length c.inputs + length outputs ≤ 256
+    → shape_bytes c.inputs + shape_bytes outputs ≤ 2 ^ 20 → sum_by (λ s. s.len) outputs ≤ 2 ^ 20 → length (circuit_text c) < 2 ^ 28
+file_short c outputs are gates ports names elements =
+    let head : length (header_text (codes "HCIR") c.preset) ≡ 6 = refl in
+    let i : length (inputs_text c.inputs) ≡ 2 + length (flat_map input_text c.inputs) = length-append (to_be_bytes w16 (length c.inputs)) (flat_map input_text c.inputs) in
+    let g : length (gates_text c.gates) ≡ 4 + length (flat_map gate_text c.gates) = length-append (to_be_bytes w32 (length c.gates)) (flat_map gate_text c.gates) in
+    let o : length (outputs_text c.outputs) ≡ 2 + length (flat_map output_text c.outputs) = length-append (to_be_bytes w16 (length c.outputs)) (flat_map output_text c.outputs) in
+    let count : length c.outputs ≡ length outputs = sym (length-map c.outputs shape_of) ∙ ap length are in
+    let os : length (flat_map output_text c.outputs) ≤ 6 * length outputs + shape_bytes outputs + 7 * sum_by (λ s. s.len) outputs = rw (are, count) at (outputs_short c.outputs) in
+    omega (arith, whole c, head, i, g, o, os, inputs_short c.inputs, gates_short c.gates, gates, ports, names, elements)

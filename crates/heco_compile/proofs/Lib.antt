@@ -1,0 +1,11 @@
+pub mod RowItems
+pub mod Deep
+pub mod Refused
+pub mod WrittenAgain
+pub mod Placeable
+pub mod Batched
+pub mod Few
+pub mod TypedPorts
+pub mod Names
+pub mod FileLength
+pub mod Texts
