@@ -1,0 +1,4 @@
+pub mod Mending
+pub mod Descents
+pub mod Sets
+pub mod Building

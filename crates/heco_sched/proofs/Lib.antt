@@ -1,0 +1,9 @@
+pub mod Wired
+pub mod TestLaws
+pub mod OperandLaws
+pub mod Waking
+pub mod WorkerCounts
+pub mod Kept
+pub mod OpeningLaws
+pub mod Chains
+pub mod Fresh
