@@ -1,5 +1,5 @@
 -- What holds of every command, in words: causes of faults, the planned calls, what stands, and completeness.
-use Rattle.std.specs.Prelude.{◌≡◌, ◌⊎◌, ◌<◌, ℕ, true, List, [], ◌∷◌, ◌++◌, map, is_some, Option, Some, None, Result}
+use Rattle.std.specs.Prelude.{◌≡◌, ◌⊎◌, ◌<◌, ℕ, true, false, List, [], ◌∷◌, ◌++◌, map, is_some, Option, Some, None, Result}
 use Rattle.heco_outside.specs.Causes.{Rose}
 use Rattle.heco_outside.specs.declared.store.Call.{Call}
 use Rattle.heco_nums.specs.declared.shape.Values.{Values}
@@ -100,6 +100,17 @@ Stands file file' out out' short short' (ReadFault k) = SameFiles file file' × 
 Stands file file' out out' short short' (WriteFault k) = (k ≡ 0) ⊎ (out' ≡ out)
 Stands file file' out out' short short' Memory = (out' ≡ out) ⊎ Rose short short'
 Stands file file' out out' short short' Fine = Unit {0}
+
+-- standard output itself is as it was after a refusal and a read fault
+abbrev pub LeavesSink : {O : Type 0} → Outcome → O → O → Type 0
+LeavesSink (Refused r) old new = new ≡ old
+LeavesSink (ReadFault k) old new = new ≡ old
+LeavesSink outcome old new = Unit {0}
+
+-- and wherever the command prints nothing
+abbrev pub Untouched : {O : Type 0} → Option Command → Outcome → O → O → Type 0
+Untouched None outcome old new = new ≡ old
+Untouched (Some command) outcome old new = LeavesSink outcome old new × ((plan_of command).prints ≡ false → new ≡ old)
 
 -- ---- completeness
 

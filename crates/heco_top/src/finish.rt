@@ -1,4 +1,4 @@
-ghost use Rattle.std.specs.Prelude.{◌≡◌, ◌≤◌, [], IsTrue};
+ghost use Rattle.std.specs.Prelude.{◌≡◌, ◌≤◌, [], IsTrue, is_some, false};
 ghost use Rattle.heco_top.specs.Endings.{Printed, Writes, write_fault_of, print_fault_of};
 ghost use Rattle.heco_top.specs.Plans.{IsFinishCause, IsOkOrMemory, Calmly};
 ghost use Rattle.heco_top.specs.Words.{texts};
@@ -33,6 +33,7 @@ fn print<O: Sink>(text: &Option<Bytes>, out: &mut O) -> Outcome
     ensures cause { IsFinishCause [] text.now 0 0 (O.faults out.old) (O.faults out.new) result }
     ensures told { IsTrue O.tells → Printed text.now (O.taken out.old) (O.taken out.new) (O.shortages out.old) (O.shortages out.new) result }
     ensures steady { O.steady out.old → Calmly (O.faults out.old) (O.faults out.new) result }
+    ensures silent { is_some text.now ≡ false → out.new ≡ out.old }
 {
     let Some(text) = text else {
         return Outcome::Ok;
@@ -57,6 +58,7 @@ pub fn finish<S: Store, O: Sink>(
     ensures told { IsTrue S.tells → IsTrue O.tells → Writes (texts words.now) writes.now text.now (S.file store.old) (S.file store.new) (S.calls store.old) (S.calls store.new)
         (O.taken out.old) (O.taken out.new) (O.shortages out.old) (O.shortages out.new) result }
     ensures steady { S.steady store.old → O.steady out.old → IsOkOrMemory result × (S.faults store.new ≡ S.faults store.old) × (O.faults out.new ≡ O.faults out.old) }
+    ensures silent { is_some text.now ≡ false → out.new ≡ out.old }
 {
     let [first, rest @ ..] = writes else {
         return print(text, out);

@@ -1,10 +1,10 @@
-ghost use Rattle.std.specs.Prelude.{◌≡◌, ◌≢◌, [], IsTrue, MatchOption};
+ghost use Rattle.std.specs.Prelude.{◌≡◌, ◌≢◌, [], IsTrue, MatchOption, Some};
 ghost use Rattle.heco_outside.specs.Causes.{Rose};
 ghost use Rattle.heco_top.specs.Commands.{command_of, plan_of, job_of};
 ghost use Rattle.heco_top.specs.Done.{DoneIfOk};
 ghost use Rattle.heco_top.specs.Endings.{Ends, JobEnds};
 ghost use Rattle.heco_top.specs.Lines.{line_of, Reports};
-ghost use Rattle.heco_top.specs.Plans.{IsCause, HasCause, FollowsPlan, PrintsPlain, Stands, HasFiles, ClearFor, ReadyFor, IsOkOrMemory, IsNoFault};
+ghost use Rattle.heco_top.specs.Plans.{IsCause, HasCause, Untouched, FollowsPlan, PrintsPlain, Stands, HasFiles, ClearFor, ReadyFor, IsOkOrMemory, IsNoFault};
 ghost use Rattle.heco_top.specs.Words.{texts};
 
 use crate::command::{Command, command_of};
@@ -28,6 +28,7 @@ fn run<S: Store, O: Sink>(
         (O.taken out.old) (O.taken out.new) (O.shortages out.old) (O.shortages out.new) result }
     ensures steady { IsTrue S.tells → S.steady store.old → O.steady out.old → HasFiles (texts words.now) (job_of command) (S.file store.old)
         → (S.faults store.new ≡ S.faults store.old) × (O.faults out.new ≡ O.faults out.old) × IsNoFault result }
+    ensures untouched { Untouched (Some command) result out.old out.new }
 {
     match gather(alloc, command, words, store) {
         Ok(product) => finish(
@@ -50,6 +51,7 @@ fn answer<S: Store, O: Sink>(alloc: Global, words: &[String], store: &mut S, out
         (O.taken out.old) (O.taken out.new) (O.shortages out.old) (O.shortages out.new) result }
     ensures quiet { IsTrue S.tells → S.steady store.old → O.steady out.old → ReadyFor (texts words.now) (command_of (texts words.now)) (S.file store.old)
         → (S.faults store.new ≡ S.faults store.old) × (O.faults out.new ≡ O.faults out.old) × IsNoFault result }
+    ensures untouched { Untouched (command_of (texts words.now)) result out.old out.new }
 {
     match command_of(words) {
         Some(command) => run(alloc, command, words, store, out),
@@ -70,6 +72,9 @@ pub fn heco<S: Store, O: Sink, E: Sink>(
 
     // a fault names a word that the command reads or writes, or standard output, and comes only where that count rose
     ensures cause { HasCause (command_of (texts words.now)) (S.faults store.old) (S.faults store.new) (O.faults out.old) (O.faults out.new) result }
+
+    // standard output itself is as it was after a refusal and a read fault, and wherever the command prints nothing
+    ensures untouched { Untouched (command_of (texts words.now)) result out.old out.new }
 
     // how the command's job ended: what was read, judged, written and printed
     ensures told { IsTrue S.tells → IsTrue O.tells → Ends (texts words.now) (command_of (texts words.now)) (S.file store.old) (S.file store.new) (S.calls store.old) (S.calls store.new)
