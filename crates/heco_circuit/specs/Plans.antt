@@ -19,6 +19,10 @@ pub record Plan : Type 0 where
   pub gates : List Gate
   pub outputs : List Output
 
+-- the name of an output, and how many elements it has
+abbrev pub shape_of : Output → Shape
+shape_of o = record { name = o.name; len = length o.cells }
+
 abbrev pub names_input : List ℕ → Shape → Bool
 names_input name s = bytes_eq s.name name
 

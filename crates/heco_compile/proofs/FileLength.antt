@@ -14,8 +14,7 @@ use Rattle.heco_circuit.specs.declared.gate.Gate.TheVariants.{Neg, Add, Mul, Rel
 use Rattle.heco_circuit.specs.declared.gate.Output.{Output}
 use Rattle.heco_circuit.specs.GateFormat.{gate_text}
 use Rattle.heco_circuit.specs.CircuitFormat.{name_text, input_text, cell_text, output_text, inputs_text, gates_text, outputs_text, circuit_text}
-use Rattle.heco_circuit.specs.Plans.{Plan}
-use Rattle.heco_thrift.specs.Placed.{shape_of}
+use Rattle.heco_circuit.specs.Plans.{Plan, shape_of}
 use Rattle.heco_compile.proofs.Names.{shape_bytes}
 
 gate_short : (g : Gate) → length (gate_text g) ≤ 9

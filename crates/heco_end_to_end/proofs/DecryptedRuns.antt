@@ -12,13 +12,13 @@ use Rattle.heco_nums.specs.declared.preset.Preset.{Preset}
 use Rattle.heco_nums.specs.declared.shape.Shape.{Shape}
 use Rattle.heco_ciphertext_files.specs.CiphertextFiles.{IsTwoParts, AreCiphertexts}
 use Rattle.heco_circuit.specs.Circuits.{IsCircuit}
-use Rattle.heco_circuit.specs.Plans.{Plan as Circuit, wire_parts}
+use Rattle.heco_circuit.specs.Plans.{Plan as Circuit, wire_parts, shape_of}
 use Rattle.heco_key_files.specs.KeyFiles.{made_key}
 use Rattle.heco_keys.proofs.MadeRows.{made_public}
 use Rattle.heco_material.specs.KeyLists.{KeyLists}
 use Rattle.heco_material.specs.declared.words.EncRow.{EncRow}
 use Rattle.heco_meaning.specs.Meanings.{filled, wire_at, wires_of, output_values, meaning_of}
-use Rattle.heco_products.specs.Decrypting.{is_output_wire, output_wires, output_wire_count, wire_count, decrypted_slots, decrypted_wires, row_text, shape_of}
+use Rattle.heco_products.specs.Decrypting.{is_output_wire, output_wires, output_wire_count, wire_count, decrypted_slots, decrypted_wires, row_text}
 use Rattle.heco_products.specs.Encrypting.{encrypted_messages}
 use Rattle.heco_products.specs.KeyProducts.{circuit_key}
 use Rattle.heco_products.specs.Results.{keys_of, result_wires, results_of}

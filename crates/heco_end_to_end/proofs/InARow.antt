@@ -11,7 +11,7 @@ use Rattle.heco_ciphertext_files.specs.declared.kind.FileKind.TheVariants.{Cts, 
 use Rattle.heco_ciphertext_files.proofs.Files.{own_file}
 use Rattle.heco_circuit.specs.Circuits.{IsCircuit}
 use Rattle.heco_circuit.specs.Needs.{needs_relin, needed_turns}
-use Rattle.heco_circuit.specs.Plans.{Plan as Circuit}
+use Rattle.heco_circuit.specs.Plans.{Plan as Circuit, shape_of}
 use Rattle.heco_circuit.proofs.Rising.{needed_amounts, turns_rise}
 use Rattle.heco_key_files.specs.KeyFiles.{EvalLists, AreEvalLists, evaluation, eval_text, lists_text, secret_text}
 use Rattle.heco_key_files.proofs.EvalLaws.{preset_law}
@@ -22,7 +22,7 @@ use Rattle.heco_lists.proofs.ListLaws.{sparse_law}
 use Rattle.heco_material.specs.KeyLists.{KeyLists}
 use Rattle.heco_material.specs.declared.words.EncRow.{EncRow}
 use Rattle.heco_meaning.specs.Meanings.{meaning_of}
-use Rattle.heco_products.specs.Decrypting.{output_wires, output_wire_count, outputs_text, shape_of}
+use Rattle.heco_products.specs.Decrypting.{output_wires, output_wire_count, outputs_text}
 use Rattle.heco_products.specs.Encrypting.{encrypted_inputs, messages_file}
 use Rattle.heco_products.proofs.CircuitFacts.{few_inputs, few_gates}
 use Rattle.heco_products.proofs.Products.{marked_long}

@@ -3,13 +3,13 @@ use Rattle.std.specs.Prelude.{◌≡◌, ℕ, ◌%◌, List, length, map}
 use Rattle.heco_nums.specs.declared.preset.Preset.{Preset}
 use Rattle.heco_circuit.specs.Circuits.{IsCircuit}
 use Rattle.heco_circuit.specs.Needs.{needed_keys}
-use Rattle.heco_circuit.specs.Plans.{Plan as Circuit}
+use Rattle.heco_circuit.specs.Plans.{Plan as Circuit, shape_of}
 use Rattle.heco_ciphertext_files.specs.CiphertextFiles.{AreCiphertexts}
 use Rattle.heco_key_files.specs.KeyFiles.{EvalLists}
 use Rattle.heco_material.specs.KeyLists.{KeyLists, IsKeyMaterial, IsEncMaterial}
 use Rattle.heco_material.specs.declared.words.EncRow.{EncRow}
 use Rattle.heco_meaning.specs.Meanings.{filled, meaning_of}
-use Rattle.heco_products.specs.Decrypting.{output_wire_count, outputs_text, row_text, shape_of}
+use Rattle.heco_products.specs.Decrypting.{output_wire_count, outputs_text, row_text}
 use Rattle.heco_products.specs.Encrypting.{encrypted_inputs, encrypted_messages}
 use Rattle.heco_products.specs.KeyProducts.{circuit_key}
 use Rattle.heco_products.specs.Results.{results_of}

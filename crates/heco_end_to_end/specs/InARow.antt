@@ -4,12 +4,12 @@ use Rattle.heco_nums.specs.declared.preset.Preset.{Preset}
 use Rattle.heco_ciphertext_files.specs.CiphertextFiles.{AreCiphertexts, file_text, magic_of}
 use Rattle.heco_ciphertext_files.specs.declared.kind.FileKind.TheVariants.{Cts, Res}
 use Rattle.heco_circuit.specs.Needs.{needed_keys}
-use Rattle.heco_circuit.specs.Plans.{Plan as Circuit}
+use Rattle.heco_circuit.specs.Plans.{Plan as Circuit, shape_of}
 use Rattle.heco_key_files.specs.KeyFiles.{EvalLists, AreEvalLists, eval_text, secret_text}
 use Rattle.heco_material.specs.KeyLists.{KeyLists, IsKeyMaterial}
 use Rattle.heco_material.specs.declared.words.EncRow.{EncRow}
 use Rattle.heco_meaning.specs.Meanings.{meaning_of}
-use Rattle.heco_products.specs.Decrypting.{output_wire_count, outputs_text, shape_of}
+use Rattle.heco_products.specs.Decrypting.{output_wire_count, outputs_text}
 use Rattle.heco_products.specs.Encrypting.{inputs_file}
 use Rattle.heco_scheme.specs.Bounds.{IsSparse}
 use Rattle.heco_texts.specs.Outputs.{output_text}

@@ -10,7 +10,7 @@ use Rattle.heco_execution.specs.Laws.{source_terms, input_lengths, mapped, value
 use Rattle.heco_execution.proofs.Made.{terms_are_made}
 use Rattle.heco_execution.proofs.Wholes.{numbers_are_the_terms_values}
 use Rattle.heco_circuit.specs.Circuits.{IsCircuit}
-use Rattle.heco_circuit.specs.Plans.{Plan}
+use Rattle.heco_circuit.specs.Plans.{Plan, shape_of}
 use Rattle.heco_thrift.specs.Thrift.{IsThrifty}
 use Rattle.heco_circuit.specs.declared.gate.Output.{Output}
 use Rattle.heco_meaning.specs.Meanings.{cell_value, meaning_of, wires_of}
@@ -19,7 +19,6 @@ use Rattle.heco_written.specs.ScalarTerm.{ScalarTerm, IsMade, is_number, scalar_
 use Rattle.heco_written.specs.World.{World}
 use Rattle.heco_thrift.specs.Homes.{all_cells, is_number_cell}
 use Rattle.heco_thrift.proofs.HeldValues.{modulus_pos}
-use Rattle.heco_thrift.specs.Placed.{shape_of}
 use Rattle.heco_good.specs.Good.{Good, preset_named, modulus, slots, homes_of}
 use Rattle.heco_good.specs.Placed.{ExecutesByTerms}
 use Rattle.heco_thrift.proofs.Flat.{joined, lengths, map_joined, map_flat, rows_from_items, all_joined, lengths_map, lengths_flat}

@@ -7,13 +7,12 @@ use Rattle.heco_types.specs.Shapes.{shapes_of}
 use Rattle.heco_execution.specs.Laws.{source_terms}
 use Rattle.heco_eval.specs.Typed.{modulus_named, outputs_of}
 use Rattle.heco_circuit.specs.Circuits.{IsCircuit}
-use Rattle.heco_circuit.specs.Plans.{Plan}
+use Rattle.heco_circuit.specs.Plans.{Plan, shape_of}
 use Rattle.heco_meaning.specs.Meanings.{meaning_of}
 use Rattle.heco_texts.specs.Answers.{HaveFit}
 use Rattle.heco_written.specs.ScalarTerm.{ScalarTerm, is_number}
 use Rattle.heco_written.specs.WrittenForm.{Home, written}
 use Rattle.heco_thrift.specs.Homes.{is_number_cell}
-use Rattle.heco_thrift.specs.Placed.{shape_of}
 use Rattle.heco_thrift.specs.Thrift.{IsThrifty}
 
 -- the preset that the source names, its plaintext modulus and its slots

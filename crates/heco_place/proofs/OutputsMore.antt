@@ -10,7 +10,7 @@ use Rattle.heco_ir.specs.declared.dialect.NodeId.{NodeId}
 use Rattle.heco_ir.specs.declared.home.Home.{Home}
 use Rattle.heco_circuit.specs.declared.gate.Cell.{Cell}
 use Rattle.heco_circuit.specs.declared.gate.Output.{Output}
-use Rattle.heco_thrift.specs.Placed.{shape_of}
+use Rattle.heco_circuit.specs.Plans.{shape_of}
 use Rattle.heco_place.specs.Cells.{cells_of}
 use Rattle.heco_place.specs.Fitting.{AllHomesWithin}
 

@@ -28,9 +28,9 @@ use Rattle.heco_circuit.specs.declared.gate.Output.{Output}
 use Rattle.heco_circuit.specs.Bounds.{fresh_bounds, bound_of, with_bound}
 use Rattle.heco_circuit.specs.CircuitFormat.{plan}
 use Rattle.heco_circuit.specs.Circuits.{IsCircuit}
-use Rattle.heco_circuit.specs.Plans.{Plan}
+use Rattle.heco_circuit.specs.Plans.{Plan, shape_of}
 use Rattle.heco_place.specs.declared.carrier.Carrier.{Carrier}
-use Rattle.heco_thrift.specs.Placed.{shape_of, IsPlaced}
+use Rattle.heco_thrift.specs.Placed.{IsPlaced}
 use Rattle.heco_thrift.specs.Thrift.{vectors_of, bounds_of, gate_bounds, IsThrifty}
 use Rattle.heco_place.specs.Cells.{cell_over, cells_of}
 use Rattle.heco_place.specs.Fitting.{terms_of, AllHomesWithin, AreHomes}

@@ -17,11 +17,10 @@ use Rattle.heco_circuit.specs.declared.gate.Gate.{Gate}
 use Rattle.heco_circuit.specs.declared.gate.Gate.TheVariants.{Neg, Add, Mul, Relin, Scale, Shift, Turn}
 use Rattle.heco_circuit.specs.declared.gate.Output.{Output}
 use Rattle.heco_circuit.specs.Validity.{is_between, is_gate, with_gate}
-use Rattle.heco_circuit.specs.Plans.{names_input, names_output, is_name, is_input, is_cell, is_output, push, input_parts, is_formed}
+use Rattle.heco_circuit.specs.Plans.{names_input, names_output, is_name, is_input, is_cell, is_output, push, input_parts, is_formed, shape_of}
 use Rattle.heco_circuit.specs.GateFormat.{gate_text}
 use Rattle.heco_circuit.specs.CircuitFormat.{plan, name_text, input_text, cell_text, output_text, inputs_text, gates_text, outputs_text, circuit_text}
 use Rattle.heco_circuit.specs.Circuits.{is_short, most}
-use Rattle.heco_thrift.specs.Placed.{shape_of}
 use Rattle.heco_place.specs.Cells.{cells_of}
 use Rattle.heco_place.proofs.Bools.{both, left, right}
 use Rattle.heco_place.proofs.KindCounts.{any-map}

@@ -4,10 +4,9 @@ use Rattle.std.specs.List.{list_any, count_by, range_with_len}
 use Rattle.heco_circuit.specs.declared.gate.Cell.{Cell}
 use Rattle.heco_circuit.specs.declared.gate.Cell.TheVariants.{Number, Slot}
 use Rattle.heco_circuit.specs.declared.gate.Output.{Output}
-use Rattle.heco_circuit.specs.Plans.{Plan as Circuit}
+use Rattle.heco_circuit.specs.Plans.{Plan as Circuit, shape_of}
 use Rattle.heco_meaning.specs.Meanings.{output_values}
 use Rattle.heco_nums.specs.declared.preset.Preset.{Preset}
-use Rattle.heco_nums.specs.declared.shape.Shape.{Shape}
 use Rattle.heco_scheme.specs.Encryption.{decrypted}
 use Rattle.heco_slots.specs.Rows.{first_row, row_of}
 use Rattle.heco_texts.specs.Outputs.{output_text}
@@ -56,10 +55,6 @@ decrypted_wires p e s [] cs = []
 decrypted_wires p e s (wire ∷ wires) cs = next_slots p e s wire cs ∷ decrypted_wires p e s wires (behind_next wire cs)
 
 -- ---- the text
-
--- the name of an output, and how many elements it has
-abbrev pub shape_of : Output → Shape
-shape_of o = record { name = o.name; len = length o.cells }
 
 -- each output with its elements: its numbers, and the slots of its wires in the row e
 unfoldable pub row_text : Preset → ℕ → Circuit → List ℤ → List (List (List ℕ)) → List ℕ

@@ -1,7 +1,8 @@
 ghost use Rattle.std.specs.Prelude.{◌≡◌, ◌≤◌, IfOk, All, length, map};
 ghost use Rattle.heco_scheme.specs.Ciphertexts.{IsCiphertext};
 ghost use Rattle.heco_ciphertext_files.specs.CiphertextFiles.{AreCiphertexts};
-ghost use Rattle.heco_products.specs.Decrypting.{behind_next, decrypted_slots, decrypted_wires, next_slots, output_wire_count, outputs_text, shape_of};
+ghost use Rattle.heco_products.specs.Decrypting.{behind_next, decrypted_slots, decrypted_wires, next_slots, output_wire_count, outputs_text};
+ghost use Rattle.heco_circuit.specs.Plans.{shape_of};
 ghost use Rattle.heco_slots.specs.Rows.{first_row};
 
 use crate::wires::output_wires;

@@ -1,15 +1,10 @@
 -- A circuit that was placed from the written homes of its outputs' elements.
-use Rattle.std.specs.Prelude.{◌≡◌, ℕ, List, length, map}
+use Rattle.std.specs.Prelude.{◌≡◌, ℕ, List, map}
 use Rattle.heco_nums.specs.declared.shape.Shape.{Shape}
-use Rattle.heco_circuit.specs.Plans.{Plan}
-use Rattle.heco_circuit.specs.declared.gate.Output.{Output}
+use Rattle.heco_circuit.specs.Plans.{Plan, shape_of}
 use Rattle.heco_written.specs.WrittenForm.{Home}
 use Rattle.heco_thrift.specs.Homes.{HoldsHomes}
 use Rattle.heco_thrift.specs.Thrift.{IsThrifty}
-
--- the name of an output, and how many elements it has
-abbrev pub shape_of : Output → Shape
-shape_of o = record { name = o.name; len = length o.cells }
 
 -- with this preset and these names and lengths, each element of the outputs holds its home, and the whole is thrifty
 pub record IsPlaced (id : ℕ) (inputs outputs : List Shape) (homes : List Home) (c : Plan) : Type 0 where

@@ -3,7 +3,8 @@ use Rattle.std.specs.Prelude.{All, IfOk}
 use Rattle.std.proofs.lemmas.List.{length-map}
 use Rattle.heco_meaning.specs.Meanings.{output_values}
 use Rattle.heco_texts.specs.Outputs.{output_text}
-use Rattle.heco_products.specs.Decrypting.{row_text, output_wires, decrypted_wires, shape_of}
+use Rattle.heco_products.specs.Decrypting.{row_text, output_wires, decrypted_wires}
+use Rattle.heco_circuit.specs.Plans.{shape_of}
 use Rattle.heco_products.proofs.CircuitFacts.{short_outputs}
 use Rattle.heco_products.proofs.Products.{are_ciphertexts}
 use Rattle.heco_slots.specs.Rows.{first_row}

@@ -1,5 +1,5 @@
 use Rattle.std.proofs.Common.{◌≡◌, map, take}
-use Rattle.heco_products.specs.Decrypting.{shape_of}
+use Rattle.heco_circuit.specs.Plans.{shape_of}
 use Rattle.heco_products.proofs.decrypting.shapes_of.Given as goal
 
 abbrev pub invariant-loop-output : goal.invariant-loop-output
