@@ -1,0 +1,10 @@
+use Rattle.std.proofs.Common.{◌≡◌, length, ◌∙◌, arith}
+use Rattle.heco_run.proofs.Starting.{fresh_work}
+use Rattle.heco_run.proofs.work.Work.open.Goals as goal
+
+pub invariant_of-result : goal.invariant_of-result
+invariant_of-result c =
+    let many : c.len.result ≡ length c.args.ins.items = omega arith in
+    let none = rw many at c.in_ok-judge.ensures in
+    fresh_work c.args.c.now c.args.e.now c.in_ok-gates.gates.preset c.in_ok-board.board c.in_ok-store.store.items c.in_ok-room.room.items c.args.ins.items c.args.workers
+    c.preset-valid.ensures.valid.0 (c.in_ok-gates.ensures ∙ c.preset.ensures) c.requires.one_preset c.requires.inputs none c.in_ok-board.ensures c.in_ok-store.ensures c.in_ok-room.ensures
