@@ -17,7 +17,7 @@ if [ "$1" = run ]; then
   mkdir -p out && printf '#!/bin/sh\necho ran; exit "$1"\n' >out/heco && chmod +x out/heco
   exit 2
 fi
-sleep 0.3
+while [ -e "$ROOM/hold" ]; do sleep 0.1; done
 status=0 ends=
 for crate in low left right; do
   rm -rf "../$crate/out" && mkdir -p "../$crate/out/rlib"
@@ -31,14 +31,21 @@ RT
 chmod +x "$room/bin/rt"
 
 failed=0
+builds() {
+  [ "$(grep -c '^all' "$room/calls")" = "$1" ]
+}
+# soon WORDS: waits until the command succeeds, at most a minute
+soon() {
+  local tenths=0
+  until "$@" || ((++tenths > 600)); do sleep 0.1; done
+}
 # want NAME STATUS BUILDS TEXT: what the last call ended with, how often rt has built, and what its error stream has,
 # which is empty where TEXT is
 want() {
-  local builds said
-  builds=$(grep -c '^all' "$room/calls")
+  local said
   said=$(cat "$room/err")
-  if [ "$status $builds" != "$2 $3" ] || [ -z "$4" ] && [ -n "$said" ] || [[ $said != *"$4"* ]]; then
-    echo "launcher.sh: $1: status $status, $builds builds, and $said"
+  if [ "$status" != "$2" ] || ! builds "$3" || [ -z "$4" ] && [ -n "$said" ] || [[ $said != *"$4"* ]]; then
+    echo "launcher.sh: $1: status $status, $(grep -c '^all' "$room/calls") builds, and $said"
     failed=1
   fi
 }
@@ -58,18 +65,26 @@ echo "// more" >>"$room/crates/left/src/lib.rt"
 run 0
 want "a library changed" 0 2 "building the program"
 echo "// more" >>"$room/crates/low/src/lib.rt"
+touch "$room/hold"
 run 0 &
-sleep 0.1
-(cd / && ROOM=$room PATH=$room/bin:$PATH "$room/heco" 4) >/dev/null 2>"$room/err2"
+soon builds 3
+(cd / && ROOM=$room PATH=$room/bin:$PATH "$room/heco" 4) >/dev/null 2>"$room/second" &
+second=$!
+soon grep -q "waiting for another" "$room/second"
+rm "$room/hold"
+wait "$second"
 status=$?
 wait
-cp "$room/err2" "$room/err"
+cp "$room/second" "$room/err"
 want "two at once" 4 3 "waiting for another ./heco"
 echo "// more" >>"$room/crates/low/src/lib.rt" && touch "$room/crates/right/broken"
 run 0
 want "a crate that fails" 125 4 "the build failed in right; see"
-rm "$room/bin/rt"
-(cd / && PATH=/usr/bin:/bin "$room/heco" 0) 2>"$room/err"
+mkdir "$room/tools"
+for tool in bash awk cat dirname find flock grep mkdir nproc sed sha256sum sort xargs; do
+  ln -s "$(command -v "$tool")" "$room/tools/$tool"
+done
+(cd / && PATH=$room/tools "$room/heco" 0) 2>"$room/err"
 status=$?
 want "no rt" 125 4 "rt is not on the path"
 
