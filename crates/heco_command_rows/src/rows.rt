@@ -1,36 +1,37 @@
 use crate::files::outcome_of;
+use crate::steps::with_lines;
 use std::alloc::Global;
 use std::test::Fail;
 
 // The words, the failing call of the store and of standard output (0 for none), the status, which of the files k, e, s
-// and v are there, and the line on the error stream.
+// and v are there, and the line on the error stream, with $ for LF.
 const ROWS: &str = "draw dot 1 k e|0|0|0|ke|
 draw 7 7 k e|0|0|0|ke|
 draw five 18446744073709551615 k e|0|0|0|ke|
 draw dot 007 k e|0|0|0|ke|
-show cut|0|0|3||cut: Malformed at 102
-draw cut 1 k e|0|0|3||cut: Malformed at 102
-keys cut none s v|0|0|3||cut: Malformed at 102
-keys dot copy s v|0|0|3||copy: Length at 35
-show|0|0|2||usage: heco COMMAND WORDS
-show dot dot|0|0|2||usage: heco COMMAND WORDS
-draw dot 18446744073709551616 k e|0|0|2||usage: heco COMMAND WORDS
-draw dot 000000000000000000001 k e|0|0|2||usage: heco COMMAND WORDS
-draw dot +7 k e|0|0|2||usage: heco COMMAND WORDS
-draw dot 7x k e|0|0|2||usage: heco COMMAND WORDS
-draw dot 7 k|0|0|2||usage: heco COMMAND WORDS
-draw dot 7 k k|0|0|2||usage: heco COMMAND WORDS
-draw dot 7 dot e|0|0|2||usage: heco COMMAND WORDS
-draw dot 7 k dot|0|0|2||usage: heco COMMAND WORDS
-keys dot k dot v|0|0|2||usage: heco COMMAND WORDS
-keys c k c v|0|0|2||usage: heco COMMAND WORDS
-keys dot k s s|0|0|2||usage: heco COMMAND WORDS
-show no|0|0|4||no: read fault
-show dot|1|0|4||dot: read fault
-show dot|0|1|4||standard output: write fault
-draw dot 1 k e|1|0|4||dot: read fault
-draw dot 1 k e|2|0|4||k: write fault
-draw dot 1 k e|3|0|4|k|e: write fault";
+show cut|0|0|3||cut: Malformed at 102$
+draw cut 1 k e|0|0|3||cut: Malformed at 102$
+keys cut none s v|0|0|3||cut: Malformed at 102$
+keys dot copy s v|0|0|3||copy: Length at 35$
+show|0|0|2||usage: heco COMMAND WORDS$
+show dot dot|0|0|2||usage: heco COMMAND WORDS$
+draw dot 18446744073709551616 k e|0|0|2||usage: heco COMMAND WORDS$
+draw dot 000000000000000000001 k e|0|0|2||usage: heco COMMAND WORDS$
+draw dot +7 k e|0|0|2||usage: heco COMMAND WORDS$
+draw dot 7x k e|0|0|2||usage: heco COMMAND WORDS$
+draw dot 7 k|0|0|2||usage: heco COMMAND WORDS$
+draw dot 7 k k|0|0|2||usage: heco COMMAND WORDS$
+draw dot 7 dot e|0|0|2||usage: heco COMMAND WORDS$
+draw dot 7 k dot|0|0|2||usage: heco COMMAND WORDS$
+keys dot k dot v|0|0|2||usage: heco COMMAND WORDS$
+keys c k c v|0|0|2||usage: heco COMMAND WORDS$
+keys dot k s s|0|0|2||usage: heco COMMAND WORDS$
+show no|0|0|4||no: read fault$
+show dot|1|0|4||dot: read fault$
+show dot|0|1|4||standard output: write fault$
+draw dot 1 k e|1|0|4||dot: read fault$
+draw dot 1 k e|2|0|4||k: write fault$
+draw dot 1 k e|3|0|4|k|e: write fault$";
 
 fn number(field: Option<&str>) -> Result<u64, Fail> {
     Ok(field.ok_or("no number")?.parse::<u64>()?)
@@ -44,12 +45,12 @@ fn holds(alloc: Global, row: &str) -> Result<bool, Fail> {
     let out_fails = number(fields.next())?;
     let status = number(fields.next())?;
     let there = fields.next().ok_or("no files")?;
-    let line = fields.next().ok_or("no line")?;
+    let line = with_lines(alloc, fields.next().ok_or("no line")?)?;
     let left = outcome_of(alloc, words, store_fails, out_fails)?;
     Ok(
         u64::from(left.status) == status
             && left.there.as_str() == there
-            && left.line.as_str().trim_end() == line
+            && left.line.as_str() == line.as_str()
             && left.printed.as_str() == "",
     )
 }

@@ -154,8 +154,7 @@ impl Bench {
     pub fn left(&self, alloc: Global) -> Result<String, Fail> {
         let line = text_of(alloc, self.err.bytes())?;
         let printed = text_of(alloc, self.out.bytes())?;
-        let line = line.as_str().trim_end();
-        let printed = printed.as_str().trim_end();
+        let (line, printed) = (line.as_str(), printed.as_str());
         Ok(format!(in alloc; "{}|{line}|{printed}", self.outcome.status())?)
     }
 }

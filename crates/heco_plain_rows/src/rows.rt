@@ -33,78 +33,78 @@ params p8;$fn f(in x, out y) {$for i in 0..131071 { y = 1; }$y = 2;$}|x = 1|y = 
 params p8;$fn f(in x, out y) {$y = `64*(`x`64*)`;$}|x = 9|y = 9$||0
 f(in x, out y) { for a in 0..1 { for b in 0..1 { for c in 0..1 { for d in 0..1 { for e in 0..1 { for g in 0..1 { for h in 0..1 { y += x; } } } } } } } }|x = 9|y = 9$||0
 params p8;fn f(in x, out y) { y = x; }`65498* `|x = 9|y = 9$||0
-`65537* `|||f.he: SourceLong|1
-`65537*@`|||f.he: SourceLong|1
-`65536* `|||f.he:1:65537: Syntax|1
-params p8;fn f(in x, out y) { y = x; }`65499* `|||f.he: SourceLong|1
-|||f.he:1:1: Syntax|1
-params p8;|||f.he:1:11: Syntax|1
-params p8;$|||f.he:2:1: Syntax|1
-params p8;@|||f.he:1:11: BadByte|1
-f(out y) { for i in 0...8 { y = 1; } }|||f.he:1:38: BadByte|1
-f(out y) { for i in 0....8 { y = 1; } }|||f.he:1:38: Syntax|1
-f(in x, out y) { y = x x; }|||f.he:1:38: Syntax|1
-f(in x, out y) { y = x x; } @|||f.he:1:43: BadByte|1
-f(in def, out y) { }|||f.he:1:20: Syntax|1
-f(in x, out y) { y = 12345678901; }|||f.he:1:46: Syntax|1
-params p8;$fn f(in x, out y) {$y = `65*(`x`65*)`;$}|||f.he:3:69: TooNested|1
-f(in x, out y) {`8*for i in 0..1 {`y = x;`8*}`}|||f.he:1:150: TooNested|1
-params p9;fn f(){}|||f.he:1:8: UnknownParams|1
-f(in x, out y) { y = z; }|||f.he:1:36: UnknownName|1
-f(in x, in x, out y) { y = x; }|||f.he:1:26: Redeclared|1
-f(in x, out y) { x = y; }|||f.he:1:32: NotAssignable|1
-f(in a[1], out y) { y = a; }|||f.he:1:39: Kind|1
-f(in a[8], in x, out y) { y = a[x]; }|||f.he:1:47: SecretIndex|1
-f(in x, out y) { for i in x..2 { y = 1; } }|||f.he:1:41: SecretBound|1
-params p8;$fn f(in x, out y) {$  int k = x;$}|||f.he:3:11: SecretToPublic|1
-f(in a[9], out y) { y = a[0]; }|||f.he:1:22: Length|1
-f(in x, out y) { int w[2] = {x}; }|||f.he:1:38: Length|1
-params p8;$fn f(in a[8], out y) {$  for i in 0..9 { y += a[i]; }$}|a = 1 2 3 4 5 6 7 8$||f.he:3:24: IndexRange|1
-f(in a[8], out y) { y = a[0-1]; }|a = 1 2 3 4 5 6 7 8$||f.he:1:39: IndexRange|1
-params p8;$fn f(in x, out y) {$int k = 65536 * 65536;$}|x = 1||f.he:3:15: PublicRange|1
-f(in x, out y) { y = 65536*65536*x; }|x = 1||f.he:1:41: PublicRange|1
-f(in x, out y) { y = 2147483649; }|x = 1||f.he:1:36: PublicRange|1
-params p8;$fn f(in x, out y) {$for i in 0..131071 { y = 1; }$y = 2;$y = 3;$}|x = 1||f.he:5:1: TooLarge|1
+`65537* `|||f.he: SourceLong$|1
+`65537*@`|||f.he: SourceLong$|1
+`65536* `|||f.he:1:65537: Syntax$|1
+params p8;fn f(in x, out y) { y = x; }`65499* `|||f.he: SourceLong$|1
+|||f.he:1:1: Syntax$|1
+params p8;|||f.he:1:11: Syntax$|1
+params p8;$|||f.he:2:1: Syntax$|1
+params p8;@|||f.he:1:11: BadByte$|1
+f(out y) { for i in 0...8 { y = 1; } }|||f.he:1:38: BadByte$|1
+f(out y) { for i in 0....8 { y = 1; } }|||f.he:1:38: Syntax$|1
+f(in x, out y) { y = x x; }|||f.he:1:38: Syntax$|1
+f(in x, out y) { y = x x; } @|||f.he:1:43: BadByte$|1
+f(in def, out y) { }|||f.he:1:20: Syntax$|1
+f(in x, out y) { y = 12345678901; }|||f.he:1:46: Syntax$|1
+params p8;$fn f(in x, out y) {$y = `65*(`x`65*)`;$}|||f.he:3:69: TooNested$|1
+f(in x, out y) {`8*for i in 0..1 {`y = x;`8*}`}|||f.he:1:150: TooNested$|1
+params p9;fn f(){}|||f.he:1:8: UnknownParams$|1
+f(in x, out y) { y = z; }|||f.he:1:36: UnknownName$|1
+f(in x, in x, out y) { y = x; }|||f.he:1:26: Redeclared$|1
+f(in x, out y) { x = y; }|||f.he:1:32: NotAssignable$|1
+f(in a[1], out y) { y = a; }|||f.he:1:39: Kind$|1
+f(in a[8], in x, out y) { y = a[x]; }|||f.he:1:47: SecretIndex$|1
+f(in x, out y) { for i in x..2 { y = 1; } }|||f.he:1:41: SecretBound$|1
+params p8;$fn f(in x, out y) {$  int k = x;$}|||f.he:3:11: SecretToPublic$|1
+f(in a[9], out y) { y = a[0]; }|||f.he:1:22: Length$|1
+f(in x, out y) { int w[2] = {x}; }|||f.he:1:38: Length$|1
+params p8;$fn f(in a[8], out y) {$  for i in 0..9 { y += a[i]; }$}|a = 1 2 3 4 5 6 7 8$||f.he:3:24: IndexRange$|1
+f(in a[8], out y) { y = a[0-1]; }|a = 1 2 3 4 5 6 7 8$||f.he:1:39: IndexRange$|1
+params p8;$fn f(in x, out y) {$int k = 65536 * 65536;$}|x = 1||f.he:3:15: PublicRange$|1
+f(in x, out y) { y = 65536*65536*x; }|x = 1||f.he:1:41: PublicRange$|1
+f(in x, out y) { y = 2147483649; }|x = 1||f.he:1:36: PublicRange$|1
+params p8;$fn f(in x, out y) {$for i in 0..131071 { y = 1; }$y = 2;$y = 3;$}|x = 1||f.he:5:1: TooLarge$|1
 f(in x, out y) { y = x; }|x = 256^$|y = 256$||0
 f(in x, out y) { y = x; }|~x=~00256 |y = 256$||0
 f(in x, out y) { y = x; }|$ ~$^$ # x = 1 é^ in$x = 3|y = 3$||0
 f(in x, out y) { y = x; }|x = `5000*0`7|y = 7$||0
-f(in x, out y) { y = x; }|x = 257||f.in:1: InputValue|3
-f(in x, out y) { y = x; }|x = `5000*9`||f.in:1: InputValue|3
-f(in x, out y) { y = x; }|x = 4294967297||f.in:1: InputValue|3
-f(in x, out y) { y = x; }|||f.in: InputMissing 0|3
-f(in x, out y) { y = x; }|$# x = 1$||f.in: InputMissing 0|3
-f(in x, out y) { y = x; }|x = 1$x = 2$||f.in:2: InputName|3
-f(in x, out y) { y = x; }|z = 1||f.in:1: InputName|3
-f(in x, out y) { y = x; }|y = 1||f.in:1: InputName|3
-f(in x, out y) { y = x; }|x = 1 2||f.in:1: InputCount|3
-f(in x, out y) { y = x; }|x =||f.in:1: InputCount|3
-f(in x, out y) { y = x; }|x 1||f.in:1: InputText|3
-f(in x, out y) { y = x; }|in = 1||f.in:1: InputText|3
-f(in x, out y) { y = x; }|x = -1||f.in:1: InputText|3
-f(in x, out y) { y = x; }|x = +1||f.in:1: InputText|3
-f(in x, out y) { y = x; }|x = 1^||f.in:1: InputText|3
-f(in x, out y) { y = x; }|x = 1^^$||f.in:1: InputText|3
-f(in x, out y) { y = x; }|x = 1$y||f.in:2: InputText|3
-f(in x, out y) { y = x; }|x = 257$y||f.in:1: InputValue|3
-f(in a[3], in b, in c, out y) { y = c; }|a = 1 2 3$||f.in: InputMissing 1|3
-f(in a[3], in b, in c, out y) { y = c; }|c = 1$b = 1$||f.in: InputMissing 0|3
-f(in x, out y) { y = x; }|`4194305* `||f.in: InputLong|3
-f(in x, out y) { y = x; }|`4194305*x`||f.in: InputLong|3
-f(in x, out y) { y = x; }|`4194304* `||f.in: InputMissing 0|3
+f(in x, out y) { y = x; }|x = 257||f.in:1: InputValue$|3
+f(in x, out y) { y = x; }|x = `5000*9`||f.in:1: InputValue$|3
+f(in x, out y) { y = x; }|x = 4294967297||f.in:1: InputValue$|3
+f(in x, out y) { y = x; }|||f.in: InputMissing 0$|3
+f(in x, out y) { y = x; }|$# x = 1$||f.in: InputMissing 0$|3
+f(in x, out y) { y = x; }|x = 1$x = 2$||f.in:2: InputName$|3
+f(in x, out y) { y = x; }|z = 1||f.in:1: InputName$|3
+f(in x, out y) { y = x; }|y = 1||f.in:1: InputName$|3
+f(in x, out y) { y = x; }|x = 1 2||f.in:1: InputCount$|3
+f(in x, out y) { y = x; }|x =||f.in:1: InputCount$|3
+f(in x, out y) { y = x; }|x 1||f.in:1: InputText$|3
+f(in x, out y) { y = x; }|in = 1||f.in:1: InputText$|3
+f(in x, out y) { y = x; }|x = -1||f.in:1: InputText$|3
+f(in x, out y) { y = x; }|x = +1||f.in:1: InputText$|3
+f(in x, out y) { y = x; }|x = 1^||f.in:1: InputText$|3
+f(in x, out y) { y = x; }|x = 1^^$||f.in:1: InputText$|3
+f(in x, out y) { y = x; }|x = 1$y||f.in:2: InputText$|3
+f(in x, out y) { y = x; }|x = 257$y||f.in:1: InputValue$|3
+f(in a[3], in b, in c, out y) { y = c; }|a = 1 2 3$||f.in: InputMissing 1$|3
+f(in a[3], in b, in c, out y) { y = c; }|c = 1$b = 1$||f.in: InputMissing 0$|3
+f(in x, out y) { y = x; }|`4194305* `||f.in: InputLong$|3
+f(in x, out y) { y = x; }|`4194305*x`||f.in: InputLong$|3
+f(in x, out y) { y = x; }|`4194304* `||f.in: InputMissing 0$|3
 f(in x, out y) { y = x; }|x = 1`4194299* `|y = 1$||0
-params q32; fn f(in x, out y) { y = x; }|x = 65537||f.in:1: InputValue|3
+params q32; fn f(in x, out y) { y = x; }|x = 65537||f.in:1: InputValue$|3
 params q32; fn f(in x, out y) { y = x; }|x = 65536|y = 65536$||0
-f(in x, out y) { y = z; }|x = 257||f.he:1:36: UnknownName|1
-f(in x, out y) { y = ; }|x 1||f.he:1:36: Syntax|1
-params p8;$fn f(in a[8], out y) {$  for i in 0..9 { y += a[i]; }$}|a = 1$||f.in:1: InputCount|3
-params p8;$fn f(in x, out y) {$int k = 65536 * 65536;$}|||f.in: InputMissing 0|3
-params p8;$fn f(in x, out y) {$for i in 0..131071 { y = 1; }$y = 2;$y = 3;$}|`4194305* `||f.in: InputLong|3
-params p9;fn f(){}|none||f.he:1:8: UnknownParams|1
-f(in x, out y) { y = x; }|none||f.in: read fault|4
-f(in a[8], out y) { y = a[8]; }|none||f.in: read fault|4
-none|x = 1||f.he: read fault|4
-none|none||f.he: read fault|4";
+f(in x, out y) { y = z; }|x = 257||f.he:1:36: UnknownName$|1
+f(in x, out y) { y = ; }|x 1||f.he:1:36: Syntax$|1
+params p8;$fn f(in a[8], out y) {$  for i in 0..9 { y += a[i]; }$}|a = 1$||f.in:1: InputCount$|3
+params p8;$fn f(in x, out y) {$int k = 65536 * 65536;$}|||f.in: InputMissing 0$|3
+params p8;$fn f(in x, out y) {$for i in 0..131071 { y = 1; }$y = 2;$y = 3;$}|`4194305* `||f.in: InputLong$|3
+params p9;fn f(){}|none||f.he:1:8: UnknownParams$|1
+f(in x, out y) { y = x; }|none||f.in: read fault$|4
+f(in a[8], out y) { y = a[8]; }|none||f.in: read fault$|4
+none|x = 1||f.he: read fault$|4
+none|none||f.he: read fault$|4";
 
 fn file_of(alloc: Global, field: &str) -> Result<Option<String>, Fail> {
     if field == "none" {
@@ -119,12 +119,12 @@ fn holds(alloc: Global, row: &str) -> Result<bool, Fail> {
     let source = file_of(alloc, fields.next().ok_or("no source")?)?;
     let inputs = file_of(alloc, fields.next().ok_or("no inputs")?)?;
     let printed = text_of(alloc, fields.next().ok_or("no text")?)?;
-    let line = fields.next().ok_or("no line")?;
+    let line = text_of(alloc, fields.next().ok_or("no line")?)?;
     let status = fields.next().ok_or("no status")?.parse::<u8>()?;
     let left = plain(alloc, source.as_ref(), inputs.as_ref())?;
     Ok(
         left.status == status
-            && left.line.as_str().trim_end() == line
+            && left.line.as_str() == line.as_str()
             && left.printed.as_str() == printed.as_str(),
     )
 }

@@ -1,14 +1,5 @@
-pub mod StageLaws
-pub mod InputLaws
-pub mod SourceLaws
-pub mod CircuitLaws
-pub mod MaterialLaws
-pub mod ExchangedLaws
 pub mod SeedLaws
-pub mod FinishLaws
-pub mod SteadyLaws
-pub mod PlanLaws
-pub mod EndLaws
+pub mod CommandLaws
+pub mod RunLaws
 pub mod TopLaws
-pub mod DoneLaws
 pub mod PlainLaws

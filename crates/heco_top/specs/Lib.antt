@@ -1,14 +1,3 @@
-pub mod Words
 pub mod Seeds
-pub mod CircuitFiles
-pub mod ExchangedFiles
-pub mod SourceFiles
-pub mod Jobs
 pub mod Commands
-pub mod Calls
-pub mod Endings
-pub mod Reads
-pub mod Plans
-pub mod Done
-pub mod Lines
-pub mod Statuses
+pub mod Answers

@@ -1,26 +1,20 @@
 ghost use Rattle.std.specs.Prelude.{◌≡◌};
 ghost use Rattle.std.specs.List.{list_any};
 ghost use Rattle.std.specs.Str.{bytes_eq};
-ghost use Rattle.heco_top.specs.Words.{texts, name_of, are_distinct};
+ghost use Rattle.heco_jobs.specs.Words.{texts, are_distinct};
 ghost use Rattle.heco_top.specs.Commands.{command_of, plain_of, show_of, draw_of, keys_of, encrypt_of, decrypt_of};
 
 use crate::seed::seed_of;
-
-/// What is done with a circuit that the first file word holds.
-#[derive(Clone, Copy, Debug, PartialEq, Eq)]
-pub enum Task {
-    Show,
-    Draw { seed: u64 },
-    Keys,
-    Encrypt,
-    Decrypt,
-}
 
 /// What the words ask for.
 #[derive(Clone, Copy, Debug, PartialEq, Eq)]
 pub enum Command {
     Plain,
-    Circuit(Task),
+    Show,
+    Draw { seed: u64 },
+    Keys,
+    Encrypt,
+    Decrypt,
 }
 
 fn is_among(name: &str, words: &[String]) -> bool
@@ -70,7 +64,7 @@ fn show_of(words: &[String]) -> Option<Command>
     let [_] = words else {
         return None;
     };
-    Some(Command::Circuit(Task::Show))
+    Some(Command::Show)
 }
 
 // draw CIR SEED KMAT EMAT
@@ -84,7 +78,7 @@ fn draw_of(words: &[String]) -> Option<Command>
         return None;
     }
     let seed = seed_of(seed.as_str())?;
-    Some(Command::Circuit(Task::Draw { seed }))
+    Some(Command::Draw { seed })
 }
 
 // keys CIR KMAT SEC EVA
@@ -95,7 +89,7 @@ fn keys_of(words: &[String]) -> Option<Command>
         return None;
     };
     if are_distinct(words) {
-        Some(Command::Circuit(Task::Keys))
+        Some(Command::Keys)
     } else {
         None
     }
@@ -109,7 +103,7 @@ fn encrypt_of(words: &[String]) -> Option<Command>
         return None;
     };
     if are_distinct(words) {
-        Some(Command::Circuit(Task::Encrypt))
+        Some(Command::Encrypt)
     } else {
         None
     }
@@ -123,7 +117,7 @@ fn decrypt_of(words: &[String]) -> Option<Command>
         return None;
     };
     if are_distinct(words) {
-        Some(Command::Circuit(Task::Decrypt))
+        Some(Command::Decrypt)
     } else {
         None
     }
@@ -156,14 +150,4 @@ pub fn command_of(words: &[String]) -> Option<Command>
         return decrypt_of(rest);
     }
     None
-}
-
-/// The word of this number, or nothing.
-pub fn name_of(words: &[String], which: u8) -> &str
-    ensures { result.now ≡ name_of (texts words.now) which }
-{
-    match words.get(which as usize) {
-        Some(word) => word.as_str(),
-        None => "",
-    }
 }

@@ -1,17 +1,18 @@
-ghost use Rattle.std.specs.Prelude.{◌≡◌, ◌≢◌, [], IsTrue, MatchOption, Some};
+ghost use Rattle.std.specs.Prelude.{◌≡◌, ◌≢◌, [], IsTrue, MatchOption};
 ghost use Rattle.heco_outside.specs.Causes.{Rose};
+ghost use Rattle.heco_jobs.specs.Agents.{Agents};
+ghost use Rattle.heco_jobs.specs.Endings.{JobEnds};
+ghost use Rattle.heco_jobs.specs.Laws.{Stands, HasFiles, IsUntouched, IsOkOrMemory, IsNoFault};
+ghost use Rattle.heco_jobs.specs.Lines.{line_of, Reports};
+ghost use Rattle.heco_jobs.specs.Outsides.{outside};
+ghost use Rattle.heco_jobs.specs.Plans.{IsCause};
+ghost use Rattle.heco_jobs.specs.Words.{texts};
+ghost use Rattle.heco_top.specs.Answers.{HasCause, Untouched, Ends, FollowsPlan, DoneIfOk, PrintsPlain, IsClearIn, IsReadyIn};
 ghost use Rattle.heco_top.specs.Commands.{command_of, plan_of, job_of};
-ghost use Rattle.heco_top.specs.Done.{DoneIfOk};
-ghost use Rattle.heco_top.specs.Endings.{Ends, JobEnds};
-ghost use Rattle.heco_top.specs.Lines.{line_of, Reports};
-ghost use Rattle.heco_top.specs.Plans.{IsCause, HasCause, Untouched, FollowsPlan, PrintsPlain, Stands, HasFiles, ClearFor, ReadyFor, IsOkOrMemory, IsNoFault};
-ghost use Rattle.heco_top.specs.Words.{texts};
 
 use crate::command::{Command, command_of};
-use crate::finish::finish;
 use crate::gather::gather;
-use crate::report::report_outcome;
-use crate::{Outcome, Refusal};
+use heco_jobs::{Outcome, Refusal, finish, report_outcome};
 use heco_outside::{Sink, Store};
 use std::alloc::Global;
 
@@ -24,11 +25,11 @@ fn run<S: Store, O: Sink>(
     out: &mut O,
 ) -> Outcome
     ensures cause { IsCause (plan_of command) (S.faults store.old) (S.faults store.new) (O.faults out.old) (O.faults out.new) result }
-    ensures told { IsTrue S.tells → IsTrue O.tells → JobEnds (texts words.now) (job_of command) (S.file store.old) (S.file store.new) (S.calls store.old) (S.calls store.new)
-        (O.taken out.old) (O.taken out.new) (O.shortages out.old) (O.shortages out.new) result }
-    ensures steady { IsTrue S.tells → S.steady store.old → O.steady out.old → HasFiles (texts words.now) (job_of command) (S.file store.old)
+    ensures untouched { IsUntouched (plan_of command).prints result out.old out.new }
+    ensures told { IsTrue S.tells → IsTrue O.tells → (agents : Agents)
+        → JobEnds (texts words.now) (job_of agents command) agents (outside S.Store O.Sink store.old out.old) (outside S.Store O.Sink store.new out.new) result }
+    ensures steady { IsTrue S.tells → S.steady store.old → O.steady out.old → (agents : Agents) → HasFiles (texts words.now) (job_of agents command) (S.file store.old)
         → (S.faults store.new ≡ S.faults store.old) × (O.faults out.new ≡ O.faults out.old) × IsNoFault result }
-    ensures untouched { Untouched (Some command) result out.old out.new }
 {
     match gather(alloc, command, words, store) {
         Ok(product) => finish(
@@ -46,12 +47,11 @@ fn run<S: Store, O: Sink>(
 // What the words ask for, and what follows of every command.
 fn answer<S: Store, O: Sink>(alloc: Global, words: &[String], store: &mut S, out: &mut O) -> Outcome
     ensures usage { MatchOption (command_of (texts words.now)) (result ≡ Outcome.Refused Refusal.Usage) (λ _. result ≢ Outcome.Refused Refusal.Usage) }
-    ensures cause { HasCause (command_of (texts words.now)) (S.faults store.old) (S.faults store.new) (O.faults out.old) (O.faults out.new) result }
-    ensures told { IsTrue S.tells → IsTrue O.tells → Ends (texts words.now) (command_of (texts words.now)) (S.file store.old) (S.file store.new) (S.calls store.old) (S.calls store.new)
-        (O.taken out.old) (O.taken out.new) (O.shortages out.old) (O.shortages out.new) result }
-    ensures quiet { IsTrue S.tells → S.steady store.old → O.steady out.old → ReadyFor (texts words.now) (command_of (texts words.now)) (S.file store.old)
+    ensures cause { HasCause (texts words.now) (S.faults store.old) (S.faults store.new) (O.faults out.old) (O.faults out.new) result }
+    ensures untouched { Untouched (texts words.now) result out.old out.new }
+    ensures told { IsTrue S.tells → IsTrue O.tells → (agents : Agents) → Ends (texts words.now) agents agents (outside S.Store O.Sink store.old out.old) (outside S.Store O.Sink store.new out.new) result }
+    ensures quiet { IsTrue S.tells → S.steady store.old → O.steady out.old → (agents : Agents) → IsReadyIn (texts words.now) agents (S.file store.old)
         → (S.faults store.new ≡ S.faults store.old) × (O.faults out.new ≡ O.faults out.old) × IsNoFault result }
-    ensures untouched { Untouched (command_of (texts words.now)) result out.old out.new }
 {
     match command_of(words) {
         Some(command) => run(alloc, command, words, store, out),
@@ -71,37 +71,36 @@ pub fn heco<S: Store, O: Sink, E: Sink>(
     ensures usage { MatchOption (command_of (texts words.now)) (result ≡ Outcome.Refused Refusal.Usage) (λ _. result ≢ Outcome.Refused Refusal.Usage) }
 
     // a fault names a word that the command reads or writes, or standard output, and comes only where that count rose
-    ensures cause { HasCause (command_of (texts words.now)) (S.faults store.old) (S.faults store.new) (O.faults out.old) (O.faults out.new) result }
+    ensures cause { HasCause (texts words.now) (S.faults store.old) (S.faults store.new) (O.faults out.old) (O.faults out.new) result }
 
     // standard output itself is as it was after a refusal and a read fault, and wherever the command prints nothing
-    ensures untouched { Untouched (command_of (texts words.now)) result out.old out.new }
+    ensures untouched { Untouched (texts words.now) result out.old out.new }
 
-    // how the command's job ended: what was read, judged, written and printed
-    ensures told { IsTrue S.tells → IsTrue O.tells → Ends (texts words.now) (command_of (texts words.now)) (S.file store.old) (S.file store.new) (S.calls store.old) (S.calls store.new)
-        (O.taken out.old) (O.taken out.new) (O.shortages out.old) (O.shortages out.new) result }
+    // how the command's job ended: what was read, judged, written and printed; the agents were not asked
+    ensures told { IsTrue S.tells → IsTrue O.tells → (agents : Agents) → Ends (texts words.now) agents agents (outside S.Store O.Sink store.old out.old) (outside S.Store O.Sink store.new out.new) result }
 
     // where `plain` is done, exactly the text of the source's outputs was printed
-    ensures plain { IsTrue S.tells → IsTrue O.tells → PrintsPlain (texts words.now) (command_of (texts words.now)) (S.file store.old) (O.taken out.old) (O.taken out.new) result }
+    ensures plain { IsTrue S.tells → IsTrue O.tells → PrintsPlain (texts words.now) (outside S.Store O.Sink store.old out.old) (outside S.Store O.Sink store.new out.new) result }
 
     // where a command is done, exactly the files that it owes were written, all others stand, and exactly the text that it owes was printed
-    ensures done { IsTrue S.tells → IsTrue O.tells → DoneIfOk (texts words.now) (command_of (texts words.now)) (S.file store.old) (S.file store.new) (O.taken out.old) (O.taken out.new) result }
+    ensures done { IsTrue S.tells → IsTrue O.tells → (agents : Agents) → DoneIfOk (texts words.now) agents agents (outside S.Store O.Sink store.old out.old) (outside S.Store O.Sink store.new out.new) result }
 
     // the store's calls grew by the first of the planned calls, of which only the last may have failed
-    ensures planned { IsTrue S.tells → IsTrue O.tells → FollowsPlan (texts words.now) (command_of (texts words.now)) (S.calls store.old) (S.calls store.new) result }
+    ensures planned { IsTrue S.tells → IsTrue O.tells → FollowsPlan (texts words.now) (outside S.Store O.Sink store.old out.old) (outside S.Store O.Sink store.new out.new) result }
 
     // what stands after a refusal, a fault and want of memory
-    ensures stands { IsTrue S.tells → IsTrue O.tells → Stands (S.file store.old) (S.file store.new) (O.taken out.old) (O.taken out.new) (O.shortages out.old) (O.shortages out.new) result }
+    ensures stands { IsTrue S.tells → IsTrue O.tells → Stands (outside S.Store O.Sink store.old out.old) (outside S.Store O.Sink store.new out.new) result }
 
     // the line of the answer, or where a count of `err` rose a prefix of it
     ensures line { IsTrue E.tells → Reports (E.taken err.old) (E.taken err.new) (line_of (texts words.now) result)
         (E.faults err.old) (E.faults err.new) (E.shortages err.old) (E.shortages err.new) }
 
     // where no refusal is due and no count of faults rises, it is done unless memory runs out
-    ensures complete { IsTrue S.tells → IsTrue O.tells → ClearFor (texts words.now) (command_of (texts words.now)) (S.file store.old)
+    ensures complete { IsTrue S.tells → IsTrue O.tells → (agents : Agents) → IsClearIn (texts words.now) agents (S.file store.old)
         → ¬ Rose (S.faults store.old) (S.faults store.new) → ¬ Rose (O.faults out.old) (O.faults out.new) → IsOkOrMemory result }
 
     // over an undisturbed outside whose files are there, that no count rises is a fact
-    ensures steady { IsTrue S.tells → IsTrue O.tells → S.steady store.old → O.steady out.old → ReadyFor (texts words.now) (command_of (texts words.now)) (S.file store.old)
+    ensures steady { IsTrue S.tells → IsTrue O.tells → S.steady store.old → O.steady out.old → (agents : Agents) → IsReadyIn (texts words.now) agents (S.file store.old)
         → IsOkOrMemory result × (S.faults store.new ≡ S.faults store.old) × (O.faults out.new ≡ O.faults out.old) }
 {
     let outcome = answer(alloc, words, store, out);

@@ -1,5 +1,5 @@
 use Rattle.std.proofs.Common.{◌≡◌, length}
-use Rattle.heco_top.specs.Words.{texts, are_distinct}
+use Rattle.heco_jobs.specs.Words.{texts, are_distinct}
 use Rattle.heco_top.proofs.command.are_distinct.Given as goal
 
 abbrev pub invariant-loop-rest : goal.invariant-loop-rest

@@ -1,7 +1,7 @@
 use Rattle.std.proofs.Common.{◌≡◌, length}
 use Rattle.std.specs.List.{list_any}
 use Rattle.std.specs.Str.{bytes_eq}
-use Rattle.heco_top.specs.Words.{texts}
+use Rattle.heco_jobs.specs.Words.{texts}
 use Rattle.heco_top.proofs.command.is_among.Given as goal
 
 abbrev pub invariant-loop-rest : goal.invariant-loop-rest

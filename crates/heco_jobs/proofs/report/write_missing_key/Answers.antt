@@ -1,0 +1,6 @@
+use Rattle.heco_jobs.proofs.report.write_missing_key.Goals as goal
+
+pub returns-clause-wrote : goal.returns-clause-wrote
+returns-clause-wrote g c = λ told.
+    let h = c.write_pieces.ensures.wrote told in
+    rw (c.as_bytes.ensures.value, c.as_slice.ensures, c.as_bytes-2.ensures.value, c.format.ensures.text, c.as_slice-2.ensures) at h

@@ -1,0 +1,13 @@
+pub mod Words
+pub mod Calls
+pub mod Outsides
+pub mod Agents
+pub mod Jobs
+pub mod Products
+pub mod Plans
+pub mod Endings
+pub mod Stages
+pub mod Laws
+pub mod Done
+pub mod Lines
+pub mod Statuses

@@ -1,0 +1,7 @@
+pub mod InputLaws
+pub mod FirstLaws
+pub mod SourceLaws
+pub mod CircuitLaws
+pub mod MaterialLaws
+pub mod KeyFileLaws
+pub mod CiphertextLaws

@@ -1,0 +1,21 @@
+use Rattle.std.proofs.Common.{◌≡◌, ◌^◌, ℕ, List, take, subst}
+use Rattle.std.proofs.lemmas.Result.{err_from_is_err_and}
+use Rattle.heco_circuit.specs.CircuitFile.{Spells}
+use Rattle.heco_reads.specs.CircuitFiles.{IsCircuitRefusal}
+use Rattle.heco_jobs.proofs.StageLaws.{read_failed, read_judged}
+use Rattle.heco_jobs.specs.Stages.{Judges, seen}
+use Rattle.heco_jobs.specs.Words.{texts}
+use Rattle.heco_reads.proofs.CircuitLaws.{judged_circuit}
+use Rattle.heco_reads.proofs.circuit_file.read_circuit.Goals as goal
+
+pub returns-in_err-text : goal.returns-in_err-text
+returns-in_err-text g c =
+    let p = err_from_is_err_and c.from_residual.result c.from_residual.ensures.1 in
+    rw (p.1, p.2) (read_failed g.S.Store (texts c.args.words.now) c.args.which (Spells) (IsCircuitRefusal c.args.which) (2 ^ 29) c.args.store.now c.read_bytes.new.store c.in_err-text.field-0.0 c.in_err-text.ensures)
+
+pub returns : goal.returns
+returns g c =
+    let result = c.judge_circuit.result in
+    let bytes = subst (λ b. Judges (Spells) (IsCircuitRefusal c.args.which) b result) c.as_slice.ensures c.judge_circuit.ensures in
+    read_judged g.S.Store (texts c.args.words.now) c.args.which (Spells) (IsCircuitRefusal c.args.which) (2 ^ 29) c.args.store.now c.read_bytes.new.store c.in_ok-text.text result
+    (λ text h. h) c.in_ok-text.ensures bytes (λ text cut j. judged_circuit c.args.which text c.in_ok-text.text result cut j)

@@ -1,0 +1,14 @@
+use Rattle.std.proofs.Common.{ℕ, List, sym, subst, Ok, Err}
+use Rattle.heco_key_files.specs.KeyFiles.{lists_of}
+use Rattle.heco_reads.specs.KeyFiles.{SpellsEvaluation, IsEvaluationRefusal}
+use Rattle.heco_jobs.specs.Stages.{Judges}
+use Rattle.heco_reads.proofs.KeyFileLaws.{judged_evaluation}
+use Rattle.heco_reads.proofs.key_files.judge_evaluation.Goals as goal
+
+pub returns-in-Ok-clause-judged : goal.returns-in-Ok-clause-judged
+returns-in-Ok-clause-judged c = judged_evaluation lists_of c.args.which c.args.preset.now c.args.text.now (Ok c.in-Ok.key) c.in-Ok.ensures.spelled c.in-Ok.ensures.only c.in-Ok.ensures.cause
+
+pub returns-in-Err-clause-judged : goal.returns-in-Err-clause-judged
+returns-in-Err-clause-judged c =
+    subst (λ o. Judges (SpellsEvaluation c.args.preset.now) (IsEvaluationRefusal c.args.which c.args.preset.now) c.args.text.now (Err o)) (sym c.file_answer.ensures)
+    (judged_evaluation lists_of c.args.which c.args.preset.now c.args.text.now (Err c.in-Err.error) c.in-Err.ensures.spelled c.in-Err.ensures.only c.in-Err.ensures.cause)

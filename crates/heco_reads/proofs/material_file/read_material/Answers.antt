@@ -1,0 +1,21 @@
+use Rattle.std.proofs.Common.{◌≡◌, ◌^◌, ℕ, List, take, subst}
+use Rattle.std.proofs.lemmas.Result.{err_from_is_err_and}
+use Rattle.heco_material.specs.KeyLists.{lists_of, key_count}
+use Rattle.heco_reads.specs.MaterialFiles.{SpellsKeys, IsKeysRefusal}
+use Rattle.heco_jobs.proofs.StageLaws.{read_failed, read_judged}
+use Rattle.heco_jobs.specs.Stages.{Judges, seen}
+use Rattle.heco_jobs.specs.Words.{texts}
+use Rattle.heco_reads.proofs.MaterialLaws.{keys_first}
+use Rattle.heco_reads.proofs.material_file.read_material.Goals as goal
+
+pub returns-in_err-text-clause-read : goal.returns-in_err-text-clause-read
+returns-in_err-text-clause-read g c =
+    let p = err_from_is_err_and c.from_residual.result c.from_residual.ensures.1 in
+    rw (p.1, p.2) (read_failed g.S.Store (texts c.args.words.now) c.args.which (SpellsKeys c.args.preset.now (key_count c.args.needs.now)) (IsKeysRefusal c.args.which c.args.preset.now (key_count c.args.needs.now)) c.limit.result c.args.store.now c.read_bytes.new.store c.in_err-text.field-0.0 c.in_err-text.ensures)
+
+pub returns-clause-read : goal.returns-clause-read
+returns-clause-read g c =
+    let result = seen lists_of c.judge_material.result in
+    let bytes = subst (λ b. Judges (SpellsKeys c.args.preset.now (key_count c.args.needs.now)) (IsKeysRefusal c.args.which c.args.preset.now (key_count c.args.needs.now)) b result) c.as_slice.ensures c.judge_material.ensures.judged in
+    read_judged g.S.Store (texts c.args.words.now) c.args.which (SpellsKeys c.args.preset.now (key_count c.args.needs.now)) (IsKeysRefusal c.args.which c.args.preset.now (key_count c.args.needs.now)) c.limit.result c.args.store.now c.read_bytes.new.store c.in_ok-text.text result
+    (λ text h. h) c.in_ok-text.ensures bytes (λ text cut j. keys_first c.args.which c.args.preset.now (key_count c.args.needs.now) text c.in_ok-text.text result (subst (λ l. take l text ≡ c.in_ok-text.text) c.limit.ensures cut) j)

@@ -1,0 +1,21 @@
+use Rattle.std.proofs.Common.{◌≡◌, ◌^◌, ℕ, List, take, subst}
+use Rattle.std.proofs.lemmas.Result.{err_from_is_err_and}
+use Rattle.heco_texts.specs.Answers.{IsRead}
+use Rattle.heco_reads.specs.SourceFiles.{IsTextRefusal}
+use Rattle.heco_jobs.proofs.StageLaws.{read_failed, read_judged}
+use Rattle.heco_jobs.specs.Stages.{Judges, seen}
+use Rattle.heco_jobs.specs.Words.{texts}
+use Rattle.heco_reads.proofs.InputLaws.{judged_values}
+use Rattle.heco_reads.proofs.values_file.read_inputs.Goals as goal
+
+pub returns-in_err-text-clause-read : goal.returns-in_err-text-clause-read
+returns-in_err-text-clause-read g c =
+    let p = err_from_is_err_and c.from_residual.result c.from_residual.ensures.1 in
+    rw (p.1, p.2) (read_failed g.S.Store (texts c.args.words.now) c.args.which (IsRead c.args.preset.now.t c.args.shapes.now) (IsTextRefusal c.args.preset.now.t c.args.shapes.now) 4194305 c.args.store.now c.read_bytes.new.store c.in_err-text.field-0.0 c.in_err-text.ensures)
+
+pub returns-clause-read : goal.returns-clause-read
+returns-clause-read g c =
+    let result = c.judge_inputs.result in
+    let bytes = subst (λ b. Judges (IsRead c.args.preset.now.t c.args.shapes.now) (IsTextRefusal c.args.preset.now.t c.args.shapes.now) b result) c.as_slice.ensures c.judge_inputs.ensures.judged in
+    read_judged g.S.Store (texts c.args.words.now) c.args.which (IsRead c.args.preset.now.t c.args.shapes.now) (IsTextRefusal c.args.preset.now.t c.args.shapes.now) 4194305 c.args.store.now c.read_bytes.new.store c.in_ok-text.text result
+    (λ text h. h) c.in_ok-text.ensures bytes (λ text cut j. judged_values c.args.preset.now.t c.args.shapes.now text c.in_ok-text.text result cut j)

@@ -1,0 +1,5 @@
+pub mod SourceFiles
+pub mod CircuitFiles
+pub mod MaterialFiles
+pub mod KeyFiles
+pub mod CiphertextFiles

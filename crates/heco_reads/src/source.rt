@@ -1,0 +1,46 @@
+ghost use Rattle.std.specs.Prelude.{◌≡◌};
+ghost use Rattle.heco_sources.specs.Sources.{IsSource};
+ghost use Rattle.heco_jobs.specs.Stages.{IsThingRead, Judges};
+ghost use Rattle.heco_jobs.specs.Words.{texts};
+ghost use Rattle.heco_reads.specs.SourceFiles.{IsSourceRefusal, source_answer};
+
+use heco_jobs::{Outcome, Refusal, read_bytes};
+use heco_outside::Store;
+use heco_sources::SourceErr;
+use heco_types::Typed;
+use std::alloc::Global;
+
+// One byte more than a source may have, so that a longer text is seen as longer.
+const SOURCE_LIMIT: u64 = 65537;
+
+fn answer(error: SourceErr) -> Outcome
+    ensures { result ≡ source_answer error }
+{
+    match error {
+        SourceErr::SourceLong => Outcome::Refused(Refusal::SourceLong),
+        SourceErr::At { rule, at } => Outcome::Refused(Refusal::At { rule, at }),
+        SourceErr::Memory => Outcome::Memory,
+    }
+}
+
+fn judge_source(alloc: Global, text: &[u8]) -> Result<Typed, Outcome>
+    ensures { Judges IsSource IsSourceRefusal text.now result }
+{
+    match heco_sources::read_source(alloc, text) {
+        Ok(typed) => Ok(typed),
+        Err(error) => Err(answer(error)),
+    }
+}
+
+/// The typed source that this file word holds.
+pub fn read_source<S: Store>(
+    alloc: Global,
+    words: &[String],
+    which: u8,
+    store: &mut S,
+) -> Result<Typed, Outcome>
+    ensures { IsThingRead S.Store (texts words.now) which IsSource IsSourceRefusal store.old store.new result }
+{
+    let text = read_bytes(alloc, words, which, SOURCE_LIMIT, store)?;
+    judge_source(alloc, text.as_slice())
+}

@@ -1,0 +1,3 @@
+pub mod ExecutionLaws
+pub mod KeyLaws
+pub mod JobLaws

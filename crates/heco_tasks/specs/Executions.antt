@@ -1,0 +1,26 @@
+-- What the execution of a source gives, and how it is refused.
+use Rattle.std.specs.Prelude.{◌≡◌, ℕ, List, Ok, Err}
+use Rattle.heco_eval.specs.Typed.{outputs_of}
+use Rattle.heco_execution.specs.Outcomes.{broken}
+use Rattle.heco_execution.specs.declared.error.EvalErr.{EvalErr}
+use Rattle.heco_execution.specs.declared.error.EvalErr.TheVariants as execution
+use Rattle.heco_nums.specs.declared.shape.Values.{Values}
+use Rattle.heco_syntax.specs.declared.tree.Source.{Source}
+use Rattle.heco_jobs.specs.declared.outcome.Outcome.{Outcome}
+use Rattle.heco_jobs.specs.declared.outcome.Outcome.TheVariants.{Refused, Memory}
+use Rattle.heco_jobs.specs.declared.outcome.Refusal.{Refusal}
+use Rattle.heco_jobs.specs.declared.outcome.Refusal.TheVariants.{At}
+
+-- the execution of the source on these rows gives these lists
+abbrev pub AreOutputs : Source → List (List ℕ) → Values → Type 0
+AreOutputs s rows out = outputs_of s rows ≡ Ok out.rows
+
+-- this is the first rule of execution that it breaks
+abbrev pub IsExecutionRefusal : Source → List (List ℕ) → Refusal → Type 0
+IsExecutionRefusal s rows (At rule at) = outputs_of s rows ≡ Err (broken rule at)
+IsExecutionRefusal s rows refusal = ⊥
+
+-- what an error of an execution is answered with
+abbrev pub execution_answer : EvalErr → Outcome
+execution_answer (execution.At rule at) = Refused (At rule at)
+execution_answer execution.Memory = Memory

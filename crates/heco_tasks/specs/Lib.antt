@@ -1,0 +1,4 @@
+pub mod DrawnFiles
+pub mod Executions
+pub mod SourceTasks
+pub mod CircuitTasks

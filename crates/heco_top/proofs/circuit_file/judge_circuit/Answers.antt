@@ -1,9 +1,0 @@
-use Rattle.std.proofs.Common.{sym, subst, Err}
-use Rattle.heco_circuit.specs.CircuitFile.{Spells}
-use Rattle.heco_top.specs.CircuitFiles.{IsCircuitRefusal}
-use Rattle.heco_top.specs.Reads.{Judges}
-use Rattle.heco_top.proofs.CircuitLaws.{refused_circuit}
-use Rattle.heco_top.proofs.circuit_file.judge_circuit.Goals as goal
-
-pub returns-in-Err : goal.returns-in-Err
-returns-in-Err c = subst (λ o. Judges Spells IsCircuitRefusal c.args.text.now (Err o)) (sym c.answer.ensures) (refused_circuit c.args.text.now c.in-Err.error c.in-Err.ensures.cause c.in-Err.ensures.only)

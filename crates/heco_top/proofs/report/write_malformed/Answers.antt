@@ -1,6 +1,0 @@
-use Rattle.heco_top.proofs.report.write_malformed.Goals as goal
-
-pub returns-clause-wrote : goal.returns-clause-wrote
-returns-clause-wrote g c = λ told.
-    let h = c.write_offset.ensures.wrote told in
-    rw (c.as_slice.ensures) at h

@@ -1,6 +1,0 @@
-use Rattle.heco_top.proofs.report.write_noisy.Goals as goal
-
-pub returns-clause-wrote : goal.returns-clause-wrote
-returns-clause-wrote g c = λ told.
-    let h = c.write_pieces.ensures.wrote told in
-    rw (c.as_bytes.ensures.value, c.as_slice.ensures, c.as_bytes-2.ensures.value, c.format.ensures.text, c.as_slice-2.ensures, c.as_bytes-3.ensures.value, c.format-2.ensures.text, c.as_slice-3.ensures) at h
