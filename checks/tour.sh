@@ -1,8 +1,8 @@
 #!/usr/bin/env bash
-# Runs every line `$ ..` of the README's tour, and then the rows of examples/answers.txt, with the program that the gate
-# has built, or with PROGRAM. Of a line, what stands behind two or more blanks is a remark, which may name its status.
-# The lines below it are what it prints, on both streams: a line `..` stands for any lines, and `..` at a line's end for
-# its rest. Files that the tour puts into /tmp go into a folder of their own.
+# Runs every line `$ ..` of the README's tour, the rows of examples/answers.txt and the picture of docs/, with the
+# program that the gate has built, or with PROGRAM. Of a line, what stands behind two or more blanks is a remark, which
+# may name its status. The lines below it are what it prints, on both streams: a line `..` stands for any lines, and `..`
+# at a line's end for its rest. Files that the tour puts into /tmp go into a folder of their own.
 set -u
 top=$(cd "$(dirname "${BASH_SOURCE[0]}")/.." && pwd) || exit 1
 export HECO=${1:-$top/crates/heco/out/heco}
@@ -43,4 +43,5 @@ try
 [ "$ran" -gt 0 ] || failed=1
 echo "$ran lines of the tour were run"
 examples/run_all.sh || failed=1
+examples/picture.sh examples/dot8.cir | cmp - docs/dot8.svg || failed=1
 exit "$failed"
