@@ -7,3 +7,4 @@ pub mod Kept
 pub mod OpeningLaws
 pub mod Chains
 pub mod Fresh
+pub mod OutputNames
