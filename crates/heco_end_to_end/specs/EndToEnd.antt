@@ -60,4 +60,6 @@ PrintsTheMeaning p c k material rows = outputs_text p c k.s (run_result p c k ma
 -- ---- for whatever key and inputs of two parts are read
 
 abbrev pub ResultsAreCiphertexts : Type 0
-ResultsAreCiphertexts = (p : Preset) (c : Circuit) (e : EvalLists) (inputs : List Ciphertext) → IsCircuit c → AreCiphertexts p.n (length c.inputs) inputs → AreCiphertexts p.n (output_wire_count c) (results_of p c e inputs)
+ResultsAreCiphertexts =
+    (p : Preset) (c : Circuit) (e : EvalLists) (inputs : List Ciphertext) → IsCircuit c → AreCiphertexts p.n (length c.inputs) inputs
+    → AreCiphertexts p.n (output_wire_count c) (results_of p c e inputs)

@@ -117,7 +117,8 @@ WiresCarryTheirMessages =
 -- in the run of a valid circuit by any keys from inputs of two parts, each wire has the parts that the circuit says
 abbrev pub WiresHaveTheirParts : Type 0
 WiresHaveTheirParts =
-    (p : Preset) (keys : SwitchKeys) (c : Plan) (inputs : List Ciphertext) → IsCircuit c → length inputs ≡ length c.inputs → All (HasShape p.n 2) inputs → AllShaped p.n (wire_parts c) (run_of p keys c.gates inputs)
+    (p : Preset) (keys : SwitchKeys) (c : Plan) (inputs : List Ciphertext) → IsCircuit c → length inputs ≡ length c.inputs → All (HasShape p.n 2) inputs
+    → AllShaped p.n (wire_parts c) (run_of p keys c.gates inputs)
 
 -- these are the ciphertexts of the wires: first the inputs, and then what each gate makes of the wires before its own
 pub record IsInOrder (p : Preset) (keys : SwitchKeys) (gates : List Gate) (inputs wires : List Ciphertext) : Type 0 where

@@ -15,13 +15,15 @@ use Rattle.heco_run_laws.specs.Carried.{FitsRow, HaveKeys, IsFreshFor, two_row_m
 -- an encryption of any message, within bounds, is fresh for it
 abbrev pub EncryptionsAreFresh : Type 0
 EncryptionsAreFresh =
-    (p : Preset) (s : List ℤ) (p0 p1 : List ℕ) (u e1 e2 : List ℤ) (m : List ℕ) → IsSparse p.n p.h s → IsPublicKey p.n p.b s p0 p1 → IsSparse p.n p.h u → AreErrors p.n p.b e1 → AreErrors p.n p.b e2
+    (p : Preset) (s : List ℤ) (p0 p1 : List ℕ) (u e1 e2 : List ℤ) (m : List ℕ) → IsSparse p.n p.h s → IsPublicKey p.n p.b s p0 p1 → IsSparse p.n p.h u → AreErrors p.n p.b e1
+    → AreErrors p.n p.b e2
     → IsFreshFor p s m (encrypted p p0 p1 u e1 e2 m)
 
 -- where the input messages have these rows of values, filled with zeros, in the row e, each wire decrypts to what it means for them, in that row
 abbrev pub RowsDecryptToTheMeaning : Type 0
 RowsDecryptToTheMeaning =
-    (p : Preset) (e : ℕ) (s : List ℤ) (keys : SwitchKeys) (c : Plan) (messages rows : List (List ℕ)) (inputs : List Ciphertext) → e % 2 ≡ 1 → p.id ≡ c.preset → IsCircuit c → IsSparse p.n p.h s → HaveKeys p s keys c.gates
+    (p : Preset) (e : ℕ) (s : List ℤ) (keys : SwitchKeys) (c : Plan) (messages rows : List (List ℕ)) (inputs : List Ciphertext) → e % 2 ≡ 1 → p.id ≡ c.preset → IsCircuit c
+    → IsSparse p.n p.h s → HaveKeys p s keys c.gates
     → length messages ≡ length c.inputs → AllZip (IsFreshFor p s) messages inputs → map (row_of p e) messages ≡ map (filled p.slots) rows
     → (w : ℕ) → w < length (wire_parts c) → row_of p e (decrypted p s (ciphertext_at (run_of p keys c.gates inputs) w)) ≡ wire_at (wires_of c rows) w
 

@@ -1,18 +1,13 @@
-ghost use Rattle.std.specs.Prelude.{◌≡◌, ◌≤◌, ◌+◌, ◌-◌, ◌*◌, ◌%◌, map, ℕ, Bool, List, [], Some, length, slice_get, slice_index_or, if◌then◌else◌};
-ghost use Rattle.heco_circuit.specs.Circuits.{IsCircuit};
-ghost use Rattle.heco_circuit.specs.Needs.{needed_keys};
-ghost use Rattle.heco_circuit.specs.Plans.{Plan};
-ghost use Rattle.heco_material.specs.KeyLists.{KeyLists, IsKeyMaterial};
+ghost use Rattle.std.specs.Prelude.{◌≡◌, ◌≤◌, ◌-◌, ◌*◌, ◌+◌, ◌%◌, ℕ, List, map};
 ghost use Rattle.heco_meaning.specs.Meanings.{sums, products, turned};
-ghost use Rattle.heco_nums.specs.Needs.{IsRising};
 ghost use Rattle.heco_nums.specs.declared.preset.Preset.{Preset};
 ghost use Rattle.heco_slots.specs.Messages as message;
 ghost use Rattle.heco_slots.specs.Rows.{row_of};
-ghost use Rattle.heco_run_laws.specs.CircuitKeys.{switch_keys};
-ghost use Rattle.heco_run_laws.specs.Carried.{HaveKeys, MessagesMeanTheirRows, RowsAreIndependent, RunsAreInOrder, WiresCarryTheirMessages, WiresHaveTheirParts, WiresKeepTheirNoise};
+ghost use Rattle.heco_run_laws.specs.Carried.{MessagesMeanTheirRows, RowsAreIndependent, RunsAreInOrder, WiresCarryTheirMessages, WiresHaveTheirParts, WiresKeepTheirNoise};
+ghost use Rattle.heco_run_laws.specs.CircuitKeys.{MadeKeysAreForTheGates};
 ghost use Rattle.heco_run_laws.specs.DecryptedRows.{EncryptionsAreFresh, RowsDecryptToTheMeaning, TwoRowsDecryptApart};
 ghost use Rattle.heco_run_laws.specs.Measured.{EncodingsAreMessages, MeasuredNoisesKeepToTheirBounds};
-ghost use Rattle.heco_run_laws.specs.Runs.{Rows, keys_among};
+ghost use Rattle.heco_run_laws.specs.Runs.{TurnKeysAreFound};
 
 /// In the run of a valid circuit each wire has, for its message, at most its written bound of noise, whatever the messages
 /// of the inputs are.
@@ -74,13 +69,13 @@ pub fn runs_are_in_order()
 
 /// The switch key of a turn among those of an evaluation key is the one that is found where its amount stands.
 pub fn turn_keys_are_found()
-    ensures { (relin : Bool) (turns : List ℕ) (keys : List Rows) (r j : ℕ) → IsRising turns → length keys ≡ (if relin then 1 else 0) + length turns → slice_get turns j ≡ Some r → (keys_among relin turns keys).turn r ≡ slice_index_or keys ((if relin then 1 else 0) + j) [] }
+    ensures { TurnKeysAreFound }
 {}
 
 /// Made from material within bounds, each key that a gate of the circuit takes is one of the material's secret, with
 /// errors within bounds.
 pub fn made_keys_are_for_the_gates()
-    ensures { (p : Preset) (c : Plan) (k : KeyLists) → IsCircuit c → IsKeyMaterial p.n p.h p.b (needed_keys c) k → HaveKeys p k.s (switch_keys p.n c k) c.gates }
+    ensures { MadeKeysAreForTheGates }
 {}
 
 /// What is done to a message is done to each of its slots, in every row alike; a turn turns each row.
