@@ -16,7 +16,7 @@ use Rattle.heco_reads.proofs.CircuitLaws.{spells_once}
 use Rattle.heco_reads.proofs.KeyFileLaws.{evaluation_alone, secret_alone}
 use Rattle.heco_reads.proofs.MaterialLaws.{keys_alone, encryptions_alone}
 use Rattle.heco_tasks.specs.CircuitTasks.{show_plan, draw_plan, keys_plan, encrypt_plan, decrypt_plan, show_job, draw_job, keys_job, encrypt_job, decrypt_job, shown_job, drawn_job, material_job, evaluation_job, encryptions_job, inputs_job, secret_job, result_job}
-use Rattle.heco_tasks.specs.SourceTasks.{plain_plan, plain_job, values_job, outputs_job}
+use Rattle.heco_tasks.specs.SourceTasks.{plain_plan, plain_job, values_job, outputs_job, compile_plan, compile_job, accepted_job}
 
 abbrev values_of : List (List ℕ) → Values
 values_of rows = record { rows = rows }
@@ -34,6 +34,16 @@ module _ (agents : Agents) where
   pub tells_plain : Tells (plain_job agents)
   unfolding Tells plain_job values_job outputs_job
   tells_plain = (one_source, λ s. ((λ text v w hv hw. ap values_of (hv.rows ∙ sym hw.rows)), λ v. ((λ out other h k. ap values_of (let both : Ok out.rows ≡ Ok other.rows = sym h ∙ k in cc)), λ out. tt)))
+
+  -- ---- compile
+
+  pub plans_compile : Plans (compile_job agents) compile_plan.reads compile_plan
+  unfolding Plans compile_job accepted_job
+  plans_compile = (refl, (λ s u p left h. fits_store compile_plan _ p refl refl h.0.stores))
+
+  pub tells_compile : Tells (compile_job agents)
+  unfolding Tells compile_job accepted_job
+  tells_compile = (one_source, λ s. ((λ x y h k. refl), λ u. tt))
 
   -- ---- show
 

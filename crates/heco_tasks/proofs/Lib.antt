@@ -1,3 +1,4 @@
 pub mod ExecutionLaws
+pub mod CompileLaws
 pub mod KeyLaws
 pub mod JobLaws

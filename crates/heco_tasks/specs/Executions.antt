@@ -1,5 +1,8 @@
--- What the execution of a source gives, and how it is refused.
+-- What the execution of a source gives, and how it and its compilation are refused.
 use Rattle.std.specs.Prelude.{◌≡◌, ℕ, List, Ok, Err}
+use Rattle.heco_compile.specs.Compiling.{IsRefused as IsNoCircuit}
+use Rattle.heco_compile.specs.declared.error.CompileErr.{CompileErr}
+use Rattle.heco_compile.specs.declared.error.CompileErr.TheVariants as compiling
 use Rattle.heco_eval.specs.Typed.{outputs_of}
 use Rattle.heco_execution.specs.Outcomes.{broken}
 use Rattle.heco_execution.specs.declared.error.EvalErr.{EvalErr}
@@ -9,7 +12,7 @@ use Rattle.heco_syntax.specs.declared.tree.Source.{Source}
 use Rattle.heco_jobs.specs.declared.outcome.Outcome.{Outcome}
 use Rattle.heco_jobs.specs.declared.outcome.Outcome.TheVariants.{Refused, Memory}
 use Rattle.heco_jobs.specs.declared.outcome.Refusal.{Refusal}
-use Rattle.heco_jobs.specs.declared.outcome.Refusal.TheVariants.{At}
+use Rattle.heco_jobs.specs.declared.outcome.Refusal.TheVariants.{SourceLong, At, TooDeep}
 
 -- the execution of the source on these rows gives these lists
 abbrev pub AreOutputs : Source → List (List ℕ) → Values → Type 0
@@ -24,3 +27,16 @@ IsExecutionRefusal s rows refusal = ⊥
 abbrev pub execution_answer : EvalErr → Outcome
 execution_answer (execution.At rule at) = Refused (At rule at)
 execution_answer execution.Memory = Memory
+
+-- its execution breaks this rule first, or this output element is the first that is too deep
+abbrev pub IsCompileRefusal : Source → Refusal → Type 0
+IsCompileRefusal s (At rule at) = IsNoCircuit s (compiling.At rule at)
+IsCompileRefusal s (TooDeep out index bound) = IsNoCircuit s (compiling.TooDeep out index bound)
+IsCompileRefusal s refusal = ⊥
+
+-- what an error of a compilation is answered with
+abbrev pub compile_answer : CompileErr → Outcome
+compile_answer compiling.SourceLong = Refused SourceLong
+compile_answer (compiling.At rule at) = Refused (At rule at)
+compile_answer (compiling.TooDeep out index bound) = Refused (TooDeep out index bound)
+compile_answer compiling.Memory = Memory

@@ -1,5 +1,9 @@
 -- What is done with a source: the plan and the job of each command that reads one first.
-use Rattle.std.specs.Prelude.{ℕ, true, List, [], ◌∷◌}
+use Rattle.std.specs.Prelude.{ℕ, true, false, List, [], ◌∷◌}
+use Rattle.heco_circuit.specs.CircuitFormat.{circuit_text}
+use Rattle.heco_circuit.specs.Plans.{Plan as Circuit}
+use Rattle.heco_good.specs.Accepted.{IsAccepted}
+use Rattle.heco_good.specs.Good.{Good}
 use Rattle.heco_nums.specs.declared.shape.Values.{Values}
 use Rattle.heco_sources.specs.Inputs.{output_shapes, IsInput}
 use Rattle.heco_sources.specs.Sources.{IsSource}
@@ -8,9 +12,10 @@ use Rattle.heco_texts.specs.Outputs.{output_text}
 use Rattle.heco_jobs.specs.Agents.{Agents, asking_none}
 use Rattle.heco_jobs.specs.Jobs.{Job, Read, Judge, Give}
 use Rattle.heco_jobs.specs.Plans.{Plan}
-use Rattle.heco_jobs.specs.Products.{Prints}
+use Rattle.heco_jobs.specs.Products.{Prints, Stores, planned}
+use Rattle.heco_jobs.specs.declared.product.Product.{Product}
 use Rattle.heco_reads.specs.SourceFiles.{IsSourceRefusal, IsValuesRefusal}
-use Rattle.heco_tasks.specs.Executions.{AreOutputs, IsExecutionRefusal}
+use Rattle.heco_tasks.specs.Executions.{AreOutputs, IsExecutionRefusal, IsCompileRefusal}
 
 -- ---- plain SRC IN
 
@@ -27,3 +32,21 @@ values_job agents s = Read 2 Values (IsInput s) (IsValuesRefusal s) (outputs_job
 
 unfoldable pub plain_job : Agents → Job
 plain_job agents = Read 1 Source IsSource IsSourceRefusal (values_job agents)
+
+-- ---- compile SRC CIR
+
+abbrev pub compile_plan : Plan
+compile_plan = record { reads = 1 ∷ []; writes = 2 ∷ []; prints = false }
+
+-- the file of one of the source's good circuits is written
+pub record Compiles (s : Source) (p : Product) : Type 0 where
+  pub circuit : Circuit
+  pub good : Good s circuit
+  pub stores : Stores (planned 2 (circuit_text circuit) ∷ []) p
+
+-- the source is accepted, which is judged, and one of its good circuits is written, which is chosen
+unfoldable pub accepted_job : Agents → Source → Job
+accepted_job agents s = Judge (Unit {0}) (λ _. IsAccepted s) (IsCompileRefusal s) (λ _. Give (asking_none agents (Compiles s)))
+
+unfoldable pub compile_job : Agents → Job
+compile_job agents = Read 1 Source IsSource IsSourceRefusal (accepted_job agents)

@@ -2,6 +2,7 @@
 #![tactic(auto)]
 
 mod circuits;
+mod compile;
 mod decrypt;
 mod draw;
 mod encrypt;
@@ -9,6 +10,7 @@ mod keys;
 mod plain;
 mod show;
 
+pub use compile::gather_compile;
 pub use decrypt::gather_decrypt;
 pub use draw::gather_draw;
 pub use encrypt::gather_encrypt;

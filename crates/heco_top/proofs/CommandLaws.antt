@@ -3,14 +3,15 @@ use Rattle.std.proofs.Common.{◌<◌, arith}
 use Rattle.heco_jobs.specs.Agents.{Agents}
 use Rattle.heco_jobs.proofs.DoneLaws.{Tells}
 use Rattle.heco_jobs.proofs.PlanLaws.{Plans, ArePositive}
-use Rattle.heco_tasks.proofs.JobLaws.{plans_plain, tells_plain, plans_show, tells_show, plans_draw, tells_draw, plans_keys, tells_keys, plans_encrypt, tells_encrypt, plans_decrypt, tells_decrypt}
+use Rattle.heco_tasks.proofs.JobLaws.{plans_plain, tells_plain, plans_compile, tells_compile, plans_show, tells_show, plans_draw, tells_draw, plans_keys, tells_keys, plans_encrypt, tells_encrypt, plans_decrypt, tells_decrypt}
 use Rattle.heco_top.specs.Commands.{plan_of, job_of}
 use Rattle.heco_top.specs.declared.command.Command.{Command}
-use Rattle.heco_top.specs.declared.command.Command.TheVariants.{Plain, Show, Draw, Keys, Encrypt, Decrypt}
+use Rattle.heco_top.specs.declared.command.Command.TheVariants.{Plain, Compile, Show, Draw, Keys, Encrypt, Decrypt}
 
 -- its job reads the words of its plan in order, and gives what is planned
 pub plans : (agents : Agents) (c : Command) → Plans (job_of agents c) (plan_of c).reads (plan_of c)
 plans agents Plain = plans_plain agents
+plans agents Compile = plans_compile agents
 plans agents Show = plans_show agents
 plans agents (Draw seed) = plans_draw agents seed
 plans agents Keys = plans_keys agents
@@ -20,6 +21,7 @@ plans agents Decrypt = plans_decrypt agents
 -- each file can be read as one thing alone
 pub tells : (agents : Agents) (c : Command) → Tells (job_of agents c)
 tells agents Plain = tells_plain agents
+tells agents Compile = tells_compile agents
 tells agents Show = tells_show agents
 tells agents (Draw seed) = tells_draw agents seed
 tells agents Keys = tells_keys agents
@@ -29,6 +31,7 @@ tells agents Decrypt = tells_decrypt agents
 -- no written word has the number of standard output
 pub positive : (c : Command) → ArePositive (plan_of c).writes
 positive Plain = tt
+positive Compile = (omega arith, tt)
 positive Show = tt
 positive (Draw seed) = (omega arith, (omega arith, tt))
 positive Keys = (omega arith, (omega arith, tt))

@@ -7,9 +7,9 @@ use Rattle.heco_jobs.specs.Jobs.{Job}
 use Rattle.heco_jobs.specs.Plans.{Plan}
 use Rattle.heco_jobs.specs.Words.{are_distinct}
 use Rattle.heco_tasks.specs.CircuitTasks.{show_plan, draw_plan, keys_plan, encrypt_plan, decrypt_plan, show_job, draw_job, keys_job, encrypt_job, decrypt_job}
-use Rattle.heco_tasks.specs.SourceTasks.{plain_plan, plain_job}
+use Rattle.heco_tasks.specs.SourceTasks.{plain_plan, plain_job, compile_plan, compile_job}
 use Rattle.heco_top.specs.declared.command.Command.{Command}
-use Rattle.heco_top.specs.declared.command.Command.TheVariants.{Plain, Show, Draw, Keys, Encrypt, Decrypt}
+use Rattle.heco_top.specs.declared.command.Command.TheVariants.{Plain, Compile, Show, Draw, Keys, Encrypt, Decrypt}
 use Rattle.heco_top.specs.Seeds.{seed_of}
 
 -- ---- the rows of words
@@ -21,6 +21,11 @@ where_distinct names command = if are_distinct names then command else None
 abbrev pub plain_of : List (List ℕ) → Option Command
 plain_of (source ∷ inputs ∷ []) = where_distinct (source ∷ inputs ∷ []) (Some Plain)
 plain_of words = None
+
+-- compile SRC CIR
+abbrev pub compile_of : List (List ℕ) → Option Command
+compile_of (source ∷ circuit ∷ []) = where_distinct (source ∷ circuit ∷ []) (Some Compile)
+compile_of words = None
 
 -- show CIR
 abbrev pub show_of : List (List ℕ) → Option Command
@@ -50,6 +55,7 @@ decrypt_of words = None
 abbrev pub command_of : List (List ℕ) → Option Command
 command_of (c ∷ rest) =
     if bytes_eq c (codes "plain") then plain_of rest else
+    if bytes_eq c (codes "compile") then compile_of rest else
     if bytes_eq c (codes "show") then show_of rest else
     if bytes_eq c (codes "draw") then draw_of rest else
     if bytes_eq c (codes "keys") then keys_of rest else
@@ -61,6 +67,7 @@ command_of [] = None
 
 abbrev pub plan_of : Command → Plan
 plan_of Plain = plain_plan
+plan_of Compile = compile_plan
 plan_of Show = show_plan
 plan_of (Draw seed) = draw_plan
 plan_of Keys = keys_plan
@@ -69,6 +76,7 @@ plan_of Decrypt = decrypt_plan
 
 abbrev pub job_of : Agents → Command → Job
 job_of agents Plain = plain_job agents
+job_of agents Compile = compile_job agents
 job_of agents Show = show_job agents
 job_of agents (Draw seed) = draw_job agents seed
 job_of agents Keys = keys_job agents

@@ -2,7 +2,7 @@ ghost use Rattle.std.specs.Prelude.{◌≡◌};
 ghost use Rattle.std.specs.List.{list_any};
 ghost use Rattle.std.specs.Str.{bytes_eq};
 ghost use Rattle.heco_jobs.specs.Words.{texts, are_distinct};
-ghost use Rattle.heco_top.specs.Commands.{command_of, plain_of, show_of, draw_of, keys_of, encrypt_of, decrypt_of};
+ghost use Rattle.heco_top.specs.Commands.{command_of, plain_of, compile_of, show_of, draw_of, keys_of, encrypt_of, decrypt_of};
 
 use crate::seed::seed_of;
 
@@ -10,6 +10,7 @@ use crate::seed::seed_of;
 #[derive(Clone, Copy, Debug, PartialEq, Eq)]
 pub enum Command {
     Plain,
+    Compile,
     Show,
     Draw { seed: u64 },
     Keys,
@@ -52,6 +53,20 @@ fn plain_of(words: &[String]) -> Option<Command>
     };
     if are_distinct(words) {
         Some(Command::Plain)
+    } else {
+        None
+    }
+}
+
+// compile SRC CIR
+fn compile_of(words: &[String]) -> Option<Command>
+    ensures { result ≡ compile_of (texts words.now) }
+{
+    let [_, _] = words else {
+        return None;
+    };
+    if are_distinct(words) {
+        Some(Command::Compile)
     } else {
         None
     }
@@ -133,6 +148,9 @@ pub fn command_of(words: &[String]) -> Option<Command>
     let command = command.as_str();
     if command == "plain" {
         return plain_of(rest);
+    }
+    if command == "compile" {
+        return compile_of(rest);
     }
     if command == "show" {
         return show_of(rest);

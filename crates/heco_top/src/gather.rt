@@ -7,7 +7,8 @@ use crate::command::Command;
 use heco_jobs::{Outcome, Product};
 use heco_outside::Store;
 use heco_tasks::{
-    gather_decrypt, gather_draw, gather_encrypt, gather_keys, gather_plain, gather_show,
+    gather_compile, gather_decrypt, gather_draw, gather_encrypt, gather_keys, gather_plain,
+    gather_show,
 };
 use std::alloc::Global;
 
@@ -22,6 +23,7 @@ pub fn gather<S: Store>(
 {
     match command {
         Command::Plain => gather_plain(alloc, words, store),
+        Command::Compile => gather_compile(alloc, words, store),
         Command::Show => gather_show(alloc, words, store),
         Command::Draw { seed } => gather_draw(alloc, seed, words, store),
         Command::Keys => gather_keys(alloc, words, store),

@@ -1,0 +1,39 @@
+use Rattle.std.proofs.Common.{◌≡◌, ◌∷◌, [], refl, Ok, Err}
+use Rattle.std.proofs.lemmas.Result.{err_from_is_err_and}
+use Rattle.heco_circuit.specs.CircuitFormat.{circuit_text}
+use Rattle.heco_good.specs.Accepted.{IsAccepted}
+use Rattle.heco_jobs.specs.Agents.{asking_none}
+use Rattle.heco_jobs.specs.Jobs.{Give}
+use Rattle.heco_jobs.specs.Products.{planned}
+use Rattle.heco_jobs.proofs.PlanLaws.{fits_store}
+use Rattle.heco_jobs.proofs.StageLaws.{decided_on, decided_off, given, given_none}
+use Rattle.heco_tasks.specs.Executions.{IsCompileRefusal}
+use Rattle.heco_tasks.specs.SourceTasks.{compile_plan, accepted_job, Compiles}
+use Rattle.heco_tasks.proofs.compile.give_circuit.Goals as goal
+
+pub returns-in_err-circuit : goal.returns-in_err-circuit
+unfolding accepted_job
+returns-in_err-circuit c = λ agents.
+    let s = c.args.typed.now in
+    let p = err_from_is_err_and c.from_residual.result c.from_residual.ensures.1 in
+    rw (p.1, p.2) (decided_off compile_plan {Thing = Unit {0}} (λ _. IsAccepted s) (IsCompileRefusal s) (λ _. Give (asking_none agents (Compiles s))) agents
+    c.in_err-circuit.field-0.0 (λ h. h) c.in_err-circuit.ensures.settled)
+
+pub returns-in_err-product : goal.returns-in_err-product
+unfolding accepted_job
+returns-in_err-product c = λ agents.
+    let s = c.args.typed.now in
+    let p = err_from_is_err_and c.from_residual-in_err-product.result c.from_residual-in_err-product.ensures.1 in
+    rw (p.1, p.2) (decided_on compile_plan {Thing = Unit {0}} (λ _. IsAccepted s) (IsCompileRefusal s) (λ _. Give (asking_none agents (Compiles s))) agents
+    tt _ c.in_ok-circuit.ensures.settled (given_none compile_plan _ agents))
+
+pub returns : goal.returns
+unfolding accepted_job
+returns c = λ agents.
+    let s = c.args.typed.now in
+    let circuit = c.in_ok-circuit.circuit in
+    let product = c.in_ok-product.product in
+    decided_on compile_plan {Thing = Unit {0}} (λ _. IsAccepted s) (IsCompileRefusal s) (λ _. Give (asking_none agents (Compiles s))) agents
+    tt (Ok product) c.in_ok-circuit.ensures.settled
+    (given compile_plan (asking_none agents (Compiles s)) agents (Ok product) (λ q h. fits_store compile_plan (planned 2 (circuit_text h.0.circuit) ∷ []) q refl refl h.0.stores)
+    (record { circuit = circuit; good = c.in_ok-circuit.ensures.good; stores = c.in_ok-product.ensures }, refl))
