@@ -7,7 +7,8 @@ const CHAIN: &str =
     "draw copy 7 k e;keys copy k s v;put i x = 5;encrypt copy v e i c;copy r c;set r 0 48524553";
 
 // The failing call of the store and of standard output (0 for none), the steps, the status of the last command, the
-// line on the error stream and the printed text whole, with $ for LF; `chain` stands for the steps above.
+// line on the error stream and the printed text whole, with $ for LF; in a step ~ stands for a
+// semicolon; `chain` stands for the steps above.
 const ROWS: &str =
     "0|0|zeros k 160;set k 0 01;set k 23 05;zeros e 48;set e 0 01;set e 16 02;set e 32 ff;keys copy k s v;zeros t 22;set t 0 48534543010101;same s t;zeros w 265;set w 0 484556410101;set w 9 03fffffffffffffb;set w 137 0000000000000005;same v w|0||
 0|0|zeros k 160;set k 0 01;set k 23 05;zeros e 48;set e 0 01;set e 16 02;set e 32 ff;keys copy k s v;put i x = 0;encrypt copy v e i c;zeros d 266;set d 0 48435453010100000001;set d 10 03fffffffffffffd;set d 138 0000000000000004;same c d;copy r c;set r 0 48524553;decrypt copy s r|0||y = 0$
@@ -98,7 +99,15 @@ const ROWS: &str =
 0|2|chain;decrypt copy s r|0||y = 5$
 0|0|draw copy 7 k e;keys copy k s v;put i x = 5;encrypt copy no e i c;absent c|4|no: read fault$|
 0|0|draw copy 7 k e;keys copy k s v;put i x = 5;encrypt copy v no i c;absent c|4|no: read fault$|
-0|0|draw copy 7 k e;keys copy k s v;put i x = 5;encrypt copy v e no c;absent c|4|no: read fault$|";
+0|0|draw copy 7 k e;keys copy k s v;put i x = 5;encrypt copy v e no c;absent c|4|no: read fault$|
+0|0|put f.he params p8~fn f(in x, out y) { y = x~ };compile f.he c;draw c 7 k e;keys c k s v;put i x = 5;encrypt c v e i r;set r 0 48524553;decrypt c s r|0||y = 5$
+0|1|put f.he params p8~fn f(in x, out y) { y = x*x~ };compile f.he c|0||
+0|0|put deep.he params p8~fn f(in x, out y) { y = x*x~ y = y*y~ y = y*y~ y = y*y~ };compile deep.he c;absent c|1|deep.he: TooDeep out 0 index 0 bound 863747166108134984309$|
+0|0|put f.he params p8~fn f(in x, out y[2]) { y[1] = x~ y[2] = x~ };compile f.he c;absent c|1|f.he:1:44: IndexRange$|
+0|0|put f.he params p8~fn f(in x, out y) { y = z~ };compile f.he c;absent c|1|f.he:1:35: UnknownName$|
+0|0|put f.he params p8~fn f(in x) { };compile f.he f.he|2|usage: heco COMMAND WORDS$|
+0|0|compile no.he c;absent c|4|no.he: read fault$|
+2|0|put f.he params p8~fn f(in x) { };compile f.he c;absent c|4|c: write fault$|";
 
 fn take_steps(alloc: Global, bench: &mut Bench, steps: &str) -> Result<(), Fail> {
     for step in steps.split(';') {

@@ -18,11 +18,19 @@ fn text_of(alloc: Global, bytes: &[u8]) -> Result<String, Fail> {
     Ok(String::from_str(alloc, std::str::from_utf8(bytes).map_err(|_| "no text")?)?)
 }
 
-/// The text with LF for each `$`.
+fn meant(c: char) -> char {
+    match c {
+        '$' => '\n',
+        '~' => ';',
+        _ => c,
+    }
+}
+
+/// The text with LF for each `$`, and a semicolon for each `~`.
 pub fn with_lines(alloc: Global, text: &str) -> Result<String, Fail> {
     let mut made = String::new(alloc);
     for c in text.chars() {
-        made.push(if c == '$' { '\n' } else { c })?;
+        made.push(meant(c))?;
     }
     Ok(made)
 }
