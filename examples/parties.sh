@@ -1,7 +1,7 @@
 #!/usr/bin/env bash
 # From a source to its printed answer by three parties, each in a folder of its own: the server computes, one party owns
 # the key and one the data. Material is drawn from known seeds here, so this is a trial and keeps nothing secret.
-# examples/parties.sh [SOURCE INPUTS]; HECO may name another program than ./heco.
+# Until the command `run` is built it ends there. examples/parties.sh [SOURCE INPUTS]; HECO may name another program.
 set -eu
 here=$(cd "$(dirname "${BASH_SOURCE[0]}")" && pwd)
 heco=$(realpath "${HECO:-$here/../heco}")
