@@ -37,9 +37,12 @@ module _ (words : List (List ℕ)) where
   owed_behind : {Thing : Type 0} (which : ℕ) (Fits : List ℕ → Thing → Type 0) (Refuses : List ℕ → Refusal → Type 0) (next : Thing → Job) (left : Agents) (file : Files) (text : List ℕ) (x : Thing) (result : Result Product Outcome)
       → ((t : List ℕ) (y z : Thing) → Fits t y → Fits t z → y ≡ z) → file (name_of words which) ≡ Some text → Fits text x → Owed (next x) left file result → Owed (Read which Thing Fits Refuses next) left file result
   unfolding Owes Fulfils
-  owed_behind which Fits Refuses next left file text x (Ok p) one there fits h = ((x, (record { text = text; there = there; fits = fits }, h.0)), λ text' x' there' fits'.
-      let same : text' ≡ text = same_Some text' text (sym there' ∙ there) in
-      subst (λ y. Owes words (next y) left file p) (one text x x' fits (subst (λ t. Fits t x') same fits')) h.1)
+  owed_behind which Fits Refuses next left file text x (Ok p) one there fits h = (
+    (x, (record { text = text; there = there; fits = fits }, h.0)),
+    λ text' x' there' fits'.
+        let same : text' ≡ text = same_Some text' text (sym there' ∙ there) in
+        subst (λ y. Owes words (next y) left file p) (one text x x' fits (subst (λ t. Fits t x') same fits')) h.1,
+  )
   owed_behind which Fits Refuses next left file text x (Err Fine) one there fits h = h
   owed_behind which Fits Refuses next left file text x (Err (Refused r)) one there fits h = tt
   owed_behind which Fits Refuses next left file text x (Err (ReadFault k)) one there fits h = tt

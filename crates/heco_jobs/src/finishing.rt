@@ -6,8 +6,8 @@ ghost use Rattle.heco_jobs.specs.Plans.{IsFinishCause};
 ghost use Rattle.heco_jobs.specs.Words.{texts};
 
 use crate::Outcome;
-use crate::words::name_of;
 use crate::product::Planned;
+use crate::words::name_of;
 use heco_nums::Bytes;
 use heco_outside::{Sink, SinkErr, Store, StoreErr};
 use std::alloc::Global;

@@ -1,9 +1,9 @@
 ghost use Rattle.std.specs.Prelude.{◌≡◌};
 ghost use Rattle.heco_jobs.specs.Statuses.{status_of};
 
-use heco_texts::InputRule;
 use heco_lex::{Place, Rule};
 use heco_nums::Memory;
+use heco_texts::InputRule;
 
 /// Why words or a file are refused. Lines and columns are from 1. `which` is the number of the file word, but in
 /// `InputMissing`.

@@ -28,12 +28,7 @@ pub fn file_answer(error: FileErr, which: u8) -> Outcome
 
 // ---- the evaluation key
 
-fn judge_evaluation(
-    alloc: Global,
-    preset: &Preset,
-    which: u8,
-    text: &[u8],
-) -> Result<Eval, Outcome>
+fn judge_evaluation(alloc: Global, preset: &Preset, which: u8, text: &[u8]) -> Result<Eval, Outcome>
     ensures kept { IfOk result (λ key. key.preset ≡ preset.now) }
     ensures judged { Judges (SpellsEvaluation preset.now) (IsEvaluationRefusal which preset.now) text.now (seen lists_of result) }
 {
@@ -70,12 +65,7 @@ pub fn read_evaluation<S: Store>(
 
 // ---- the secret key
 
-fn judge_secret(
-    alloc: Global,
-    preset: &Preset,
-    which: u8,
-    text: &[u8],
-) -> Result<Secret, Outcome>
+fn judge_secret(alloc: Global, preset: &Preset, which: u8, text: &[u8]) -> Result<Secret, Outcome>
     ensures kept { IfOk result (λ key. key.preset ≡ preset.now) }
     ensures judged { Judges (SpellsSecret preset.now) (IsSecretRefusal which preset.now) text.now (seen (λ key. key.places) result) }
 {

@@ -1,16 +1,16 @@
 //! The reads of a command: each kind of file by the number of its word, judged before anything is done with it.
 #![tactic(auto)]
 
-mod circuit_file;
 mod ciphertexts_file;
+mod circuit_file;
 mod encryptions_file;
 mod key_files;
 mod material_file;
 mod source;
 mod values_file;
 
-pub use circuit_file::read_circuit;
 pub use ciphertexts_file::read_ciphertexts;
+pub use circuit_file::read_circuit;
 pub use encryptions_file::read_encryptions;
 pub use key_files::{read_evaluation, read_secret};
 pub use material_file::read_material;

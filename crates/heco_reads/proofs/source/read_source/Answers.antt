@@ -18,4 +18,4 @@ returns g c =
     let result = c.judge_source.result in
     let bytes = subst (λ b. Judges (IsSource) (IsSourceRefusal) b result) c.as_slice.ensures c.judge_source.ensures in
     read_judged g.S.Store (texts c.args.words.now) c.args.which (IsSource) (IsSourceRefusal) 65537 c.args.store.now c.read_bytes.new.store c.in_ok-text.text result
-    (λ text h. h) c.in_ok-text.ensures bytes (λ text cut j. judged_source  text c.in_ok-text.text result cut j)
+    (λ text h. h) c.in_ok-text.ensures bytes (λ text cut j. judged_source text c.in_ok-text.text result cut j)
