@@ -13,7 +13,7 @@ pub returns-in_err-gate-clause-gates : goal.returns-in_err-gate-clause-gates
 returns-in_err-gate-clause-gates c =
     let p = err_from_is_err_and c.from_residual.result c.from_residual.ensures.1 in
     rw (p.1, p.2) (fails c.in_err-gate.field-0.0 (gate c.args.t c.args.slots) with_gate c.loop.gates c.args.count c.loop.counter c.loop.parts c.loop.rest.now (reading (many (gate c.args.t c.args.slots) with_gate c.args.count c.args.inputs) c.args.bytes.now)
-    c.loop-test.true (rw c.as_slice.ensures at c.in_err-gate.ensures) c.loop.invariant.read)
+    c.loop-test.true (rw c.as_slice.ensures at c.in_err-gate.ensures.read) c.loop.invariant.read)
 
 pub loop-preserved : goal.loop-preserved
 loop-preserved c =
@@ -23,7 +23,7 @@ loop-preserved c =
     let gates : c.push-in-loop.new.self ≡ c.loop.gates ++ g ∷ [] = c.in_ok-push-2.ensures.ok in
     record {
       read = rw (pushed, gates) (goes_on (gate c.args.t c.args.slots) with_gate c.loop.gates c.args.count c.loop.counter c.loop.parts c.loop.rest.now g c.in_ok-gate.after.now
-          (reading (many (gate c.args.t c.args.slots) with_gate c.args.count c.args.inputs) c.args.bytes.now) c.loop-test.true (rw c.as_slice.ensures at c.in_ok-gate.ensures) c.loop.invariant.read);
+          (reading (many (gate c.args.t c.args.slots) with_gate c.args.count c.args.inputs) c.args.bytes.now) c.loop-test.true (rw c.as_slice.ensures at c.in_ok-gate.ensures.read) c.loop.invariant.read);
       parts = pushed ∙ ap (λ ps. with_gate ps g) c.loop.invariant.parts ∙ sym (along_push with_gate c.args.inputs c.loop.gates g) ∙ ap (along with_gate c.args.inputs) (sym gates);
     }
 
