@@ -1,4 +1,4 @@
-ghost use Rattle.std.specs.Prelude.{IfOk};
+ghost use Rattle.std.specs.Prelude.{◌≡◌, [], IfOk};
 ghost use Rattle.heco_material.specs.KeyLists.{key_count, lists_of, IsKeyMaterial};
 
 use super::*;
@@ -9,7 +9,8 @@ use std::test::Fail;
 
 /// Material of p8 with the secret 1, the word 5 at place 0, and no error.
 fn smallest(alloc: Global, p: &Preset) -> Result<KeyWords, MatErr>
-    ensures { IfOk result (λ k. IsKeyMaterial k.preset.n k.preset.h k.preset.b (key_count k.needs) (lists_of k)) }
+    ensures material { IfOk result (λ k. IsKeyMaterial k.preset.n k.preset.h k.preset.b (key_count k.needs) (lists_of k)) }
+    ensures turns { IfOk result (λ k. k.needs.turns ≡ []) }
 {
     let mut file = [0u8; 160];
     file[0] = 1;
