@@ -1,7 +1,7 @@
 #!/usr/bin/env bash
 # From a source to its printed answer by three parties, each in a folder of its own: the server computes, one party owns
 # the key and one the data. Material is drawn from known seeds here, so this is a trial and keeps nothing secret.
-# Until the command `run` is built it ends there. examples/parties.sh [SOURCE INPUTS]; HECO may name another program.
+# examples/parties.sh [SOURCE INPUTS]; HECO may name another program.
 set -eu
 here=$(cd "$(dirname "${BASH_SOURCE[0]}")" && pwd)
 heco=$(realpath "${HECO:-$here/../heco}")
@@ -61,11 +61,7 @@ as server run cir eva cts res || status=$?
 cp "$source" "$room/alone/source"
 cp "$inputs" "$room/alone/inputs"
 cp "$room/key-owner/kmat" "$room/data-owner/emat" "$room/alone"
-status=0
-as alone exec source inputs kmat emat cir sec eva cts res || status=$?
-# (Usage: a program from before that command)
-[ "$status" != 2 ] || exit 0
+as alone exec source inputs kmat emat cir sec eva cts res
 for file in key-owner/cir key-owner/sec key-owner/eva data-owner/cts key-owner/res; do
   cmp "$room/$file" "$room/alone/${file#*/}"
 done
-exit "$status"

@@ -9,6 +9,3 @@ mod table;
 mod written;
 
 pub use batching::batch;
-
-#[cfg(test)]
-mod tests;

@@ -22,6 +22,3 @@ pub use key_needs::needs;
 pub use quiet::{bounds, valid_circuits_are_quiet};
 pub use reading::read;
 pub use writing::write;
-
-#[cfg(test)]
-mod tests;

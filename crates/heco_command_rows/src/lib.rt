@@ -4,10 +4,4 @@
 #[cfg(test)]
 mod chain;
 #[cfg(test)]
-mod digests;
-#[cfg(test)]
-mod files;
-#[cfg(test)]
 mod rows;
-#[cfg(test)]
-mod steps;

@@ -1,5 +1,4 @@
-use crate::files::outcome_of;
-use crate::steps::with_lines;
+use heco_row_steps::{Bench, text_of};
 use std::alloc::Global;
 use std::test::Fail;
 
@@ -33,26 +32,30 @@ draw dot 1 k e|1|0|4||dot: read fault$
 draw dot 1 k e|2|0|4||k: write fault$
 draw dot 1 k e|3|0|4|k|e: write fault$";
 
-fn number(field: Option<&str>) -> Result<u64, Fail> {
-    Ok(field.ok_or("no number")?.parse::<u64>()?)
+// Which of the files are there.
+fn there(alloc: Global, bench: &Bench) -> Result<String, Fail> {
+    let mut found = String::new(alloc);
+    for name in ["k", "e", "s", "v"] {
+        if bench.file(name).is_some() {
+            found.push_str(name)?;
+        }
+    }
+    Ok(found)
 }
 
 // Whether the words of a row leave what the row says.
 fn holds(alloc: Global, row: &str) -> Result<bool, Fail> {
     let mut fields = row.split('|');
     let words = fields.next().ok_or("no words")?;
-    let store_fails = number(fields.next())?;
-    let out_fails = number(fields.next())?;
-    let status = number(fields.next())?;
-    let there = fields.next().ok_or("no files")?;
-    let line = with_lines(alloc, fields.next().ok_or("no line")?)?;
-    let left = outcome_of(alloc, words, store_fails, out_fails)?;
-    Ok(
-        u64::from(left.status) == status
-            && left.there.as_str() == there
-            && left.line.as_str() == line.as_str()
-            && left.printed.as_str() == "",
-    )
+    let store_fails = fields.next().ok_or("no call")?.parse::<u64>()?;
+    let out_fails = fields.next().ok_or("no call")?.parse::<u64>()?;
+    let status = fields.next().ok_or("no status")?;
+    let files = fields.next().ok_or("no files")?;
+    let line = text_of(alloc, fields.next().ok_or("no line")?)?;
+    let mut bench = Bench::new(alloc, store_fails, out_fails, 0)?;
+    bench.step(alloc, words)?;
+    let want = format!(in alloc; "{status}|{line}|")?;
+    Ok(bench.left(alloc)?.as_str() == want.as_str() && there(alloc, &bench)?.as_str() == files)
 }
 
 #[test]
@@ -64,17 +67,12 @@ fn each_row_leaves_what_it_says(rt: HostRuntime) -> Result<(), Fail> {
 }
 
 const LISTED: &str =
-    "params p8\nin a[8]\nin b[8]\n2 Mul 0 1 : 97975829\n3 Relin 2 : 98691317\n4 Turn 1 3 : 99406805\n5 Add 3 4 : 198098122\n6 Turn 2 5 : 198813610\n7 Add 5 6 : 396911732\n8 Turn 4 7 : 397627220\n9 Add 7 8 : 794538952\nout s[1] = 9@0\n";
+    "0||params p8\nin a[8]\nin b[8]\n2 Mul 0 1 : 97975829\n3 Relin 2 : 98691317\n4 Turn 1 3 : 99406805\n5 Add 3 4 : 198098122\n6 Turn 2 5 : 198813610\n7 Add 5 6 : 396911732\n8 Turn 4 7 : 397627220\n9 Add 7 8 : 794538952\nout s[1] = 9@0\nparams p8\nin x[1]\nout y[1] = 0@0\n";
 
 #[test]
 fn listings_are_printed(rt: HostRuntime) -> Result<(), Fail> {
-    let dot = outcome_of(rt.alloc(), "show dot", 0, 0)?;
-    assert_eq!(rt; dot.printed.as_str(), LISTED);
-    assert_eq!(rt; dot.line.as_str(), "");
-    let copy = outcome_of(rt.alloc(), "show copy", 0, 0)?;
-    assert_eq!(rt;
-        copy.printed.as_str(),
-        "params p8\nin x[1]\nout y[1] = 0@0\n"
-    );
+    let mut bench = Bench::new(rt.alloc(), 0, 0, 0)?;
+    bench.steps(rt.alloc(), "show dot;show copy")?;
+    assert_eq!(rt; bench.left(rt.alloc())?.as_str(), LISTED);
     Ok(())
 }

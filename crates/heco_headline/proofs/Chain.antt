@@ -9,15 +9,31 @@ use Rattle.heco_material.specs.KeyLists.{KeyLists}
 use Rattle.heco_material.specs.declared.words.EncRow.{EncRow}
 use Rattle.heco_meaning.specs.Meanings.{meaning_of}
 use Rattle.heco_products.proofs.CircuitFacts.{own_names}
+use Rattle.heco_products.specs.Decrypting.{outputs_text}
 use Rattle.heco_sources.specs.Inputs.{input_shapes}
 use Rattle.heco_syntax.specs.declared.tree.Source.{Source}
 use Rattle.heco_texts.specs.Answers.{HaveFit, HaveOwnNames}
 use Rattle.heco_texts.specs.Outputs.{output_text}
 use Rattle.heco_texts.proofs.FitLaws.{fits}
-use Rattle.heco_end_to_end.specs.EndToEnd.{IsRunnable}
+use Rattle.heco_end_to_end.specs.EndToEnd.{IsRunnable, run_result}
 use Rattle.heco_end_to_end.proofs.DecryptedRuns.{prints_the_meaning}
-use Rattle.heco_good.specs.Good.{modulus}
+use Rattle.heco_good.specs.Good.{Good, modulus}
 use Rattle.heco_headline.specs.Headline.{IsChain, IsPlainText, printed}
+
+-- a good circuit that can be run prints what its source's execution prints
+module _ (source : Source) (c : Circuit) (p : Preset) (rows : List (List ℕ)) (k : KeyLists) (material : List EncRow) (good : Good source c) (runs : IsRunnable p c k material rows) where
+  modulus_is : modulus source ≡ p.t
+  modulus_is = sym (p.row.4 ∙ ap modulus_of (runs.provided.preset ∙ good.preset))
+
+  source_fit : HaveFit (modulus source) (input_shapes source) rows
+  source_fit = subst (λ shapes. HaveFit (modulus source) shapes rows) good.inputs (subst (λ t. HaveFit t c.inputs rows) (sym modulus_is) runs.fit)
+
+  pub plain_run : IsPlainText source rows (outputs_text p c k.s (run_result p c k material rows))
+  plain_run = record {
+    outputs = meaning_of c rows;
+    executed = good.meaning rows source_fit;
+    is = prints_the_meaning p c k material rows runs ∙ ap (λ (shapes : List Shape). output_text shapes (meaning_of c rows)) good.outputs;
+  }
 
 module _ (source : Source) (c : Circuit) (p : Preset) (input : List ℕ) (v : Values) (k : KeyLists) (material : List EncRow) (chain : IsChain source c p input v k material) where
   own : HaveOwnNames (input_shapes source)
@@ -36,8 +52,4 @@ module _ (source : Source) (c : Circuit) (p : Preset) (input : List ℕ) (v : Va
   }
 
   pub plain : IsPlainText source v.rows (printed p c k material v)
-  plain = record {
-    outputs = meaning_of c v.rows;
-    executed = chain.good.meaning v.rows fit;
-    is = prints_the_meaning p c k material v.rows runs ∙ ap (λ (shapes : List Shape). output_text shapes (meaning_of c v.rows)) chain.good.outputs;
-  }
+  plain = plain_run source c p v.rows k material chain.good runs

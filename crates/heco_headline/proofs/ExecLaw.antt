@@ -21,7 +21,7 @@ use Rattle.heco_thrift.specs.Thrift.{vectors_of}
 use Rattle.heco_circuit.specs.Needs.{needed_keys}
 use Rattle.heco_end_to_end.specs.EndToEnd.{IsRunnable}
 use Rattle.heco_good.specs.Good.{Good, preset_named, slots, homes_of}
-use Rattle.heco_headline.specs.Exec.{written_keys, IsMaterialFor, text_of}
+use Rattle.heco_headline.specs.Exec.{written_keys, keys_for, source_keys, IsMaterialFor, text_of}
 use Rattle.heco_headline.specs.Headline.{IsChain, IsPlainText}
 use Rattle.heco_headline.proofs.Chain as chain
 
@@ -36,7 +36,7 @@ row_number_is id low high = elim (one_of_five id low high) [
   | inr (inr (inr (inr e))) ↦ ap row_number e ∙ sym e
 ]
 
-preset_number : (c : Circuit) → IsCircuit c → (preset_of c.preset).id ≡ c.preset
+pub preset_number : (c : Circuit) → IsCircuit c → (preset_of c.preset).id ≡ c.preset
 unfolding preset_of
 preset_number c valid =
     let behind = and_parts (is_between 1 5 c.preset) (are_inputs c && (are_gates c && are_outputs c)) valid.0 in
@@ -51,13 +51,20 @@ fine terms = Ok terms
 same_terms : (a b : List (List ScalarTerm)) → fine a ≡ fine b → a ≡ b
 same_terms a b e = cc
 
-module _ (source : Source) (c : Circuit) (k : KeyLists) (material : List EncRow) (good : Good source c) (fits : IsMaterialFor source k material) where
-  same_keys : written_keys source fits.terms ≡ needed_keys c
-  same_keys =
+module _ (source : Source) (c : Circuit) (good : Good source c) where
+  written_are_needed : written_keys source good.terms ≡ needed_keys c
+  written_are_needed =
       let written : turn_amounts (slots_of c.preset) (vectors_of (homes_of source good.terms)) ≡ turn_amounts (slots source) (vectors_of (homes_of source good.terms)) =
       ap (λ id. turn_amounts (slots_of id) (vectors_of (homes_of source good.terms))) good.preset in
-      ap (written_keys source) (same_terms fits.terms good.terms (sym fits.execution ∙ good.execution))
-      ∙ sym (ap₂ (λ b (turns : List ℕ). (if b then 1 else 0) + length turns) good.thrift.relinearisation_needed (good.thrift.turns_needed ∙ written))
+      sym (ap₂ (λ b (turns : List ℕ). (if b then 1 else 0) + length turns) good.thrift.relinearisation_needed (good.thrift.turns_needed ∙ written))
+
+  pub source_keys_are_needed : source_keys source ≡ needed_keys c
+  unfolding source_keys
+  source_keys_are_needed = ap (keys_for source) good.execution ∙ written_are_needed
+
+module _ (source : Source) (c : Circuit) (k : KeyLists) (material : List EncRow) (good : Good source c) (fits : IsMaterialFor source k material) where
+  same_keys : written_keys source fits.terms ≡ needed_keys c
+  same_keys = ap (written_keys source) (same_terms fits.terms good.terms (sym fits.execution ∙ good.execution)) ∙ written_are_needed source c good
 
   -- the numbers of the circuit's preset are those of the source's
   same_number : (f : ℕ → ℕ) (x : ℕ) → x ≡ f (preset_of c.preset).id → f (preset_named source) ≡ x

@@ -1,9 +1,10 @@
 -- What `exec` gives: the files and the text that come of one good circuit, of material and of values.
-use Rattle.std.specs.Prelude.{◌≡◌, ℕ, ◌+◌, List, [], ◌∷◌, Ok, length, if◌then◌else◌}
+use Rattle.std.specs.Prelude.{◌≡◌, ℕ, ◌+◌, List, [], ◌∷◌, Ok, Err, length, if◌then◌else◌}
 use Rattle.heco_nums.specs.Presets.{degree_of, weight_of, error_of}
 use Rattle.heco_circuit.specs.CircuitFormat.{circuit_text}
 use Rattle.heco_circuit.specs.Plans.{Plan as Circuit}
 use Rattle.heco_execution.specs.Laws.{source_terms}
+use Rattle.heco_execution.specs.Outcomes.{Outcome}
 use Rattle.heco_material.specs.KeyLists.{KeyLists, IsKeyMaterial, IsEncMaterial}
 use Rattle.heco_material.specs.declared.words.EncRow.{EncRow}
 use Rattle.heco_nums.specs.declared.shape.Values.{Values}
@@ -27,6 +28,15 @@ use Rattle.heco_headline.specs.Headline.{IsPlainText}
 abbrev pub written_keys : Source → List (List ScalarTerm) → ℕ
 written_keys source terms =
     (if needs_relinearisation (vectors_of (homes_of source terms)) then 1 else 0) + length (turn_amounts (slots source) (vectors_of (homes_of source terms)))
+
+-- a source whose execution breaks needs none
+abbrev pub keys_for : Source → Outcome (List (List ScalarTerm)) → ℕ
+keys_for source (Ok terms) = written_keys source terms
+keys_for source (Err e) = 0
+
+-- how many switch keys the source needs, by its written form
+unfoldable pub source_keys : Source → ℕ
+source_keys source = keys_for source (source_terms (modulus source) source)
 
 -- within the bounds of the source's preset, for the switch keys of its written form and for its inputs
 pub record IsMaterialFor (source : Source) (k : KeyLists) (material : List EncRow) : Type 0 where

@@ -18,6 +18,3 @@ pub use making::make;
 pub use secret::Secret;
 pub use sources::exponent;
 pub use switch_key::SwitchKey;
-
-#[cfg(test)]
-mod tests;

@@ -12,6 +12,3 @@ pub use place::{Place, place_of};
 pub use rule::Rule;
 pub use split::{LexErr, tokens};
 pub use token::{Token, TokenKind};
-
-#[cfg(test)]
-mod tests;

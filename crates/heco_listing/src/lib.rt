@@ -7,6 +7,3 @@ mod ports;
 mod whole;
 
 pub use whole::listing;
-
-#[cfg(test)]
-mod tests;

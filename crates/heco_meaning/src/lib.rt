@@ -9,6 +9,3 @@ mod wires;
 pub use cells::rows_of;
 pub use slots::filled;
 pub use whole::meaning;
-
-#[cfg(test)]
-mod tests;

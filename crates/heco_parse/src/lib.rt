@@ -6,6 +6,3 @@ mod read;
 pub use heco_print::print;
 pub use heco_syntax::{Expr, Ident, Num, Param, ProdPart, SetOp, Source, Stmt, SumPart};
 pub use read::{ParseErr, SOURCE_LIMIT, parse};
-
-#[cfg(test)]
-mod tests;

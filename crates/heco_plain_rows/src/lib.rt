@@ -3,7 +3,3 @@
 
 #[cfg(test)]
 mod rows;
-#[cfg(test)]
-mod run;
-#[cfg(test)]
-mod text;

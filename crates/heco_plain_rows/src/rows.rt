@@ -1,10 +1,9 @@
-use crate::run::plain;
-use crate::text::text_of;
+use heco_row_steps::{Bench, text_of};
 use std::alloc::Global;
 use std::test::Fail;
 
 // The source, the input text, what is printed, the line on the error stream, and the status. `none` stands for a file
-// that is absent; the other marks are those of `text`.
+// that is absent; the other marks are those of `text_of`.
 const ROWS: &str =
     "params p8; fn dot(in a[8], in b[8], out s) { for i in 0..8 { s += a[i]*b[i]; } }|a = 1 2 3 4 5 6 7 8$b = 1 1 1 1 1 1 1 1$|s = 36$||0
 f(in a[8], out y[7]) { for i in 0..7 { y[i] = a[i] + a[i+1]; } }|a = 1 2 3 4 5 6 7 8$|y = 3 5 7 9 11 13 15$||0
@@ -65,9 +64,9 @@ params p8;$fn f(in x, out y) {$int k = 65536 * 65536;$}|x = 1||f.he:3:15: Public
 f(in x, out y) { y = 65536*65536*x; }|x = 1||f.he:1:41: PublicRange$|1
 f(in x, out y) { y = 2147483649; }|x = 1||f.he:1:36: PublicRange$|1
 params p8;$fn f(in x, out y) {$for i in 0..131071 { y = 1; }$y = 2;$y = 3;$}|x = 1||f.he:5:1: TooLarge$|1
-f(in x, out y) { y = x; }|x = 256^$|y = 256$||0
-f(in x, out y) { y = x; }|~x=~00256 |y = 256$||0
-f(in x, out y) { y = x; }|$ ~$^$ # x = 1 é^ in$x = 3|y = 3$||0
+f(in x, out y) { y = x; }|x = 256\r$|y = 256$||0
+f(in x, out y) { y = x; }|\tx=\t00256 |y = 256$||0
+f(in x, out y) { y = x; }|$ \t$\r$ # x = 1 é\r in$x = 3|y = 3$||0
 f(in x, out y) { y = x; }|x = `5000*0`7|y = 7$||0
 f(in x, out y) { y = x; }|x = 257||f.in:1: InputValue$|3
 f(in x, out y) { y = x; }|x = `5000*9`||f.in:1: InputValue$|3
@@ -83,8 +82,8 @@ f(in x, out y) { y = x; }|x 1||f.in:1: InputText$|3
 f(in x, out y) { y = x; }|in = 1||f.in:1: InputText$|3
 f(in x, out y) { y = x; }|x = -1||f.in:1: InputText$|3
 f(in x, out y) { y = x; }|x = +1||f.in:1: InputText$|3
-f(in x, out y) { y = x; }|x = 1^||f.in:1: InputText$|3
-f(in x, out y) { y = x; }|x = 1^^$||f.in:1: InputText$|3
+f(in x, out y) { y = x; }|x = 1\r||f.in:1: InputText$|3
+f(in x, out y) { y = x; }|x = 1\r\r$||f.in:1: InputText$|3
 f(in x, out y) { y = x; }|x = 1$y||f.in:2: InputText$|3
 f(in x, out y) { y = x; }|x = 257$y||f.in:1: InputValue$|3
 f(in a[3], in b, in c, out y) { y = c; }|a = 1 2 3$||f.in: InputMissing 1$|3
@@ -106,27 +105,25 @@ f(in a[8], out y) { y = a[8]; }|none||f.in: read fault$|4
 none|x = 1||f.he: read fault$|4
 none|none||f.he: read fault$|4";
 
-fn file_of(alloc: Global, field: &str) -> Result<Option<String>, Fail> {
+fn put(alloc: Global, bench: &mut Bench, name: &str, field: &str) -> Result<(), Fail> {
     if field == "none" {
-        return Ok(None);
+        return Ok(());
     }
-    Ok(Some(text_of(alloc, field)?))
+    bench.put(name, text_of(alloc, field)?.as_str().as_bytes())
 }
 
 // Whether `plain` leaves what the row says.
 fn holds(alloc: Global, row: &str) -> Result<bool, Fail> {
     let mut fields = row.split('|');
-    let source = file_of(alloc, fields.next().ok_or("no source")?)?;
-    let inputs = file_of(alloc, fields.next().ok_or("no inputs")?)?;
+    let mut bench = Bench::new(alloc, 0, 0, 0)?;
+    put(alloc, &mut bench, "f.he", fields.next().ok_or("no source")?)?;
+    put(alloc, &mut bench, "f.in", fields.next().ok_or("no inputs")?)?;
     let printed = text_of(alloc, fields.next().ok_or("no text")?)?;
     let line = text_of(alloc, fields.next().ok_or("no line")?)?;
-    let status = fields.next().ok_or("no status")?.parse::<u8>()?;
-    let left = plain(alloc, source.as_ref(), inputs.as_ref())?;
-    Ok(
-        left.status == status
-            && left.line.as_str() == line.as_str()
-            && left.printed.as_str() == printed.as_str(),
-    )
+    let status = fields.next().ok_or("no status")?;
+    bench.step(alloc, "plain f.he f.in")?;
+    let want = format!(in alloc; "{status}|{line}|{printed}")?;
+    Ok(bench.left(alloc)?.as_str() == want.as_str())
 }
 
 #[test]

@@ -60,8 +60,27 @@ fn encrypt_inputs(
     Ok(list)
 }
 
-/// The file of the circuit's encrypted inputs: one ciphertext for each in order, of its values and then zeros as the
-/// slots, by the row of the material of its number, from the public key.
+/// The circuit's encrypted inputs: one ciphertext for each in order, of its values and then zeros as the slots, by the
+/// row of the material of its number, from the public key.
+pub fn encrypted_inputs(
+    alloc: Global,
+    circuit: &Circuit,
+    key: &Eval,
+    material: &EncWords,
+    inputs: &Inputs,
+) -> Result<Vec<Ct>, Memory>
+    requires preset { key.now.preset.id ≡ circuit.now.preset }
+    requires kept { material.now.preset ≡ key.now.preset }
+    requires within { let p = key.now.preset in IsEncMaterial p.n p.h p.b (length circuit.now.inputs) material.now.rows }
+    requires fit { HaveFit key.now.preset.t circuit.now.inputs inputs.now.rows }
+    ensures two { IfOk result (λ cs. All (λ c. length c ≡ 2) cs.items) }
+    ensures formula { IfOk result (λ cs. cs.items ≡ encrypted_inputs key.now.preset (lists_of key.now) material.now.rows inputs.now.rows) }
+{
+    let _ = circuit.preset();
+    encrypt_inputs(alloc, key, material, inputs.rows.as_slice())
+}
+
+/// The file of the circuit's encrypted inputs.
 pub fn inputs_file(
     alloc: Global,
     circuit: &Circuit,
@@ -75,7 +94,6 @@ pub fn inputs_file(
     requires fit { HaveFit key.now.preset.t circuit.now.inputs inputs.now.rows }
     ensures { IfOk result (λ bytes. bytes ≡ inputs_file key.now.preset (lists_of key.now) material.now.rows inputs.now.rows) }
 {
-    let _ = circuit.preset();
-    let ciphertexts = encrypt_inputs(alloc, key, material, inputs.rows.as_slice())?;
+    let ciphertexts = encrypted_inputs(alloc, circuit, key, material, inputs)?;
     write_cts(alloc, FileKind::Cts, key.preset(), ciphertexts.as_slice())
 }

@@ -6,5 +6,5 @@ mod encrypting;
 mod wires;
 
 pub use decrypting::outputs_text;
-pub use encrypting::inputs_file;
+pub use encrypting::{encrypted_inputs, inputs_file};
 pub use wires::{output_wire_count, output_wires};

@@ -17,6 +17,3 @@ pub use gate::operands;
 pub use heco_schedules::{Event, StepErr};
 pub use laws::circuits_are_wired;
 pub use picker::{Drawn, First, Last, Picker};
-
-#[cfg(test)]
-mod tests;

@@ -1,6 +1,6 @@
 -- Of the job of each command: it reads the words of its plan in order and gives what is planned; each file can be read as one thing alone; and it writes into file words.
 use Rattle.std.proofs.Common.{◌≡◌, ◌<◌, ◌∙◌, ℕ, List, Ok, refl, sym, ap, arith, length}
-use Rattle.heco_ciphertext_files.specs.declared.kind.FileKind.TheVariants.{Res}
+use Rattle.heco_ciphertext_files.specs.declared.kind.FileKind.TheVariants.{Cts, Res}
 use Rattle.heco_circuit.specs.Needs.{needed_keys}
 use Rattle.heco_nums.specs.declared.shape.Shape.{Shape}
 use Rattle.heco_nums.specs.declared.shape.Values.{Values}
@@ -15,7 +15,7 @@ use Rattle.heco_reads.proofs.CiphertextLaws.{ciphertexts_alone}
 use Rattle.heco_reads.proofs.CircuitLaws.{spells_once}
 use Rattle.heco_reads.proofs.KeyFileLaws.{evaluation_alone, secret_alone}
 use Rattle.heco_reads.proofs.MaterialLaws.{keys_alone, encryptions_alone}
-use Rattle.heco_tasks.specs.CircuitTasks.{show_plan, draw_plan, keys_plan, encrypt_plan, decrypt_plan, show_job, draw_job, keys_job, encrypt_job, decrypt_job, shown_job, drawn_job, material_job, evaluation_job, encryptions_job, inputs_job, secret_job, result_job}
+use Rattle.heco_tasks.specs.CircuitTasks.{show_plan, draw_plan, keys_plan, encrypt_plan, run_plan, decrypt_plan, show_job, draw_job, keys_job, encrypt_job, run_job, decrypt_job, shown_job, drawn_job, material_job, evaluation_job, encryptions_job, inputs_job, run_key_job, served_job, ciphertexts_job, secret_job, result_job}
 use Rattle.heco_tasks.specs.SourceTasks.{plain_plan, plain_job, values_job, outputs_job, compile_plan, compile_job, accepted_job}
 
 abbrev values_of : List (List ℕ) → Values
@@ -84,6 +84,16 @@ module _ (agents : Agents) where
   pub tells_encrypt : Tells (encrypt_job agents)
   unfolding Tells encrypt_job evaluation_job encryptions_job inputs_job
   tells_encrypt = (spells_once, λ c. let p = preset_of c.preset in (evaluation_alone p, λ key. (encryptions_alone p (length c.inputs), λ rows. (inputs_alone p.t c.inputs, λ v. tt))))
+
+  -- ---- run
+
+  pub plans_run : Plans (run_job agents) run_plan.reads run_plan
+  unfolding Plans run_job run_key_job served_job ciphertexts_job
+  plans_run = (refl, (λ c. (refl, (λ key u. (refl, (λ inputs p left h. fits_store run_plan _ p refl refl h.0))))))
+
+  pub tells_run : Tells (run_job agents)
+  unfolding Tells run_job run_key_job served_job ciphertexts_job
+  tells_run = (spells_once, λ c. let p = preset_of c.preset in (evaluation_alone p, λ key. ((λ x y h k. refl), λ u. (ciphertexts_alone Cts p (length c.inputs), λ inputs. tt))))
 
   -- ---- decrypt
 

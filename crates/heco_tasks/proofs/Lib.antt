@@ -2,3 +2,5 @@ pub mod ExecutionLaws
 pub mod CompileLaws
 pub mod KeyLaws
 pub mod JobLaws
+pub mod RunLaws
+pub mod MadeFileLaws

@@ -1,6 +1,6 @@
 -- What is done with a circuit: the plan and the job of each command that reads one first.
 use Rattle.std.specs.Prelude.{ℕ, true, false, List, [], ◌∷◌, length, ℤ}
-use Rattle.heco_ciphertext_files.specs.declared.kind.FileKind.TheVariants.{Res}
+use Rattle.heco_ciphertext_files.specs.declared.kind.FileKind.TheVariants.{Cts, Res}
 use Rattle.heco_circuit.specs.CircuitFile.{Spells}
 use Rattle.heco_circuit.specs.Needs.{needed_keys}
 use Rattle.heco_circuit.specs.Plans.{Plan as Circuit}
@@ -14,18 +14,21 @@ use Rattle.heco_products.specs.Decrypting.{output_wire_count, outputs_text}
 use Rattle.heco_products.specs.Encrypting.{inputs_file}
 use Rattle.heco_products.specs.KeyProducts.{secret_file, evaluation_file}
 use Rattle.heco_products.specs.PresetRows.{preset_of}
+use Rattle.heco_products.specs.Results.{results_file}
 use Rattle.heco_texts.specs.Answers.{IsRead}
 use Rattle.heco_jobs.specs.Agents.{Agents, asking_none}
 use Rattle.heco_jobs.specs.Jobs.{Job, Read, Judge, Give}
 use Rattle.heco_jobs.specs.Plans.{Plan}
 use Rattle.heco_jobs.specs.Products.{Prints, Stores, planned}
 use Rattle.heco_jobs.specs.declared.product.Planned.{Planned}
+use Rattle.heco_jobs.specs.declared.product.Product.{Product}
 use Rattle.heco_reads.specs.CiphertextFiles.{SpellsCiphertexts, IsCiphertextsRefusal}
 use Rattle.heco_reads.specs.CircuitFiles.{IsCircuitRefusal}
 use Rattle.heco_reads.specs.KeyFiles.{SpellsEvaluation, IsEvaluationRefusal, SpellsSecret, IsSecretRefusal}
 use Rattle.heco_reads.specs.MaterialFiles.{SpellsKeys, IsKeysRefusal, SpellsEncryptions, IsEncryptionsRefusal}
 use Rattle.heco_reads.specs.SourceFiles.{IsTextRefusal}
 use Rattle.heco_tasks.specs.DrawnFiles.{key_material_file, encryption_material_file}
+use Rattle.heco_tasks.specs.Running.{HasKeys, IsKeyRefusal, Leads}
 
 abbrev pub two_files : List ℕ → List ℕ → List Planned
 two_files first second = planned 3 first ∷ planned 4 second ∷ []
@@ -78,6 +81,28 @@ encryptions_job agents p c key = Read 3 (List EncRow) (SpellsEncryptions p (leng
 unfoldable pub evaluation_job : Agents → Preset → Circuit → Job
 evaluation_job agents p c = Read 2 EvalLists (SpellsEvaluation p) (IsEvaluationRefusal 2 p) (encryptions_job agents p c)
 
+-- ---- run CIR EVA CTS RES
+
+abbrev pub run_plan : Plan
+run_plan = record { reads = 1 ∷ 2 ∷ 3 ∷ []; writes = 4 ∷ []; prints = false }
+
+-- the file of the circuit's result from these inputs is written, and the picker is left as a run leaves it
+abbrev pub Runs : Agents → Preset → Circuit → EvalLists → List (List (List ℕ)) → Product → Agents → Type 0
+Runs agents p c key inputs product left = Stores (planned 4 (results_file p c key inputs) ∷ []) product × Leads c agents left
+
+-- the ciphertexts are read as those of the circuit's inputs
+unfoldable pub ciphertexts_job : Agents → Preset → Circuit → EvalLists → Job
+ciphertexts_job agents p c key =
+    Read 3 (List (List (List ℕ))) (SpellsCiphertexts Cts p (length c.inputs)) (IsCiphertextsRefusal 3 Cts p (length c.inputs)) (λ inputs. Give (Runs agents p c key inputs))
+
+-- before them it is judged whether a key is missing
+unfoldable pub served_job : Agents → Preset → Circuit → EvalLists → Job
+served_job agents p c key = Judge (Unit {0}) (λ _. HasKeys c key) (IsKeyRefusal c key) (λ _. ciphertexts_job agents p c key)
+
+-- and before that the evaluation key is read
+unfoldable pub run_key_job : Agents → Preset → Circuit → Job
+run_key_job agents p c = Read 2 EvalLists (SpellsEvaluation p) (IsEvaluationRefusal 2 p) (served_job agents p c)
+
 -- ---- decrypt CIR SEC RES
 
 abbrev pub decrypt_plan : Plan
@@ -105,6 +130,9 @@ keys_job agents = on_circuit (λ c. material_job agents (preset_of c.preset) c)
 
 unfoldable pub encrypt_job : Agents → Job
 encrypt_job agents = on_circuit (λ c. evaluation_job agents (preset_of c.preset) c)
+
+unfoldable pub run_job : Agents → Job
+run_job agents = on_circuit (λ c. run_key_job agents (preset_of c.preset) c)
 
 unfoldable pub decrypt_job : Agents → Job
 decrypt_job agents = on_circuit (λ c. secret_job agents (preset_of c.preset) c)

@@ -1,4 +1,6 @@
 pub mod DrawnFiles
 pub mod Executions
 pub mod SourceTasks
+pub mod Running
 pub mod CircuitTasks
+pub mod MadeFiles

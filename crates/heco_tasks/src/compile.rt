@@ -31,8 +31,8 @@ fn answer(error: CompileErr) -> Outcome
     }
 }
 
-// A good circuit of the source, or why it has none.
-fn compiled(alloc: Global, typed: &Typed) -> Result<Circuit, Outcome>
+/// A good circuit of the source, or why it has none.
+pub fn compiled(alloc: Global, typed: &Typed) -> Result<Circuit, Outcome>
     ensures settled { Settles (λ _. IsAccepted typed.now) (IsCompileRefusal typed.now) (came result) }
     ensures good { IfOk result (λ c. Good typed.now c) }
 {

@@ -3,3 +3,4 @@ pub mod CommandLaws
 pub mod RunLaws
 pub mod TopLaws
 pub mod PlainLaws
+mod ExecLaws

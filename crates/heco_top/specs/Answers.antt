@@ -16,10 +16,11 @@ use Rattle.heco_jobs.specs.Words.{name_of}
 use Rattle.heco_jobs.specs.declared.outcome.Outcome.{Outcome}
 use Rattle.heco_jobs.specs.declared.outcome.Outcome.TheVariants.{Ok as Fine, Refused}
 use Rattle.heco_jobs.specs.declared.outcome.Refusal.TheVariants.{Usage}
+use Rattle.heco_exec.specs.Laws.{PrintsExecuted}
 use Rattle.heco_tasks.specs.Executions.{AreOutputs}
-use Rattle.heco_top.specs.Commands.{command_of, plan_of, job_of}
+use Rattle.heco_top.specs.Commands.{command_of, plan_of, job_of, asks}
 use Rattle.heco_top.specs.declared.command.Command.{Command}
-use Rattle.heco_top.specs.declared.command.Command.TheVariants.{Plain}
+use Rattle.heco_top.specs.declared.command.Command.TheVariants.{Plain, Exec}
 
 -- ---- over whatever outside
 
@@ -38,6 +39,14 @@ UntouchedFor None outcome old new = new ≡ old
 -- this is as it was after a refusal and a read fault, and wherever the command prints nothing
 abbrev pub Untouched : {O : Type 0} → List (List ℕ) → Outcome → O → O → Type 0
 Untouched words outcome old new = UntouchedFor (command_of words) outcome old new
+
+abbrev pub PickerLeftFor : {P : Type 0} → Option Command → Outcome → P → P → Type 0
+PickerLeftFor (Some command) outcome old new = IsUntouched (asks command) outcome old new
+PickerLeftFor None outcome old new = new ≡ old
+
+-- the picker is as it was after a refusal and a read fault, and wherever the command doesn't ask it
+abbrev pub PickerLeft : {P : Type 0} → List (List ℕ) → Outcome → P → P → Type 0
+PickerLeft words outcome old new = PickerLeftFor (command_of words) outcome old new
 
 -- ---- over an outside that tells
 
@@ -97,3 +106,13 @@ module _ (words : List (List ℕ)) where
   -- after Ok of `plain` standard output grew by that text
   abbrev pub PrintsPlain : Outside → Outside → Outcome → Type 0
   PrintsPlain old new outcome = PrintsFor (command_of words) old new outcome
+
+  -- ---- the headline
+
+  abbrev pub ExecutedFor : Option Command → Outside → Outside → Outcome → Type 0
+  ExecutedFor (Some Exec) old new Fine = PrintsExecuted words old new
+  ExecutedFor command old new outcome = Unit {0}
+
+  -- after Ok of `exec` the files are as the headline says, and standard output grew by the text of which it speaks
+  abbrev pub PrintsExec : Outside → Outside → Outcome → Type 0
+  PrintsExec old new outcome = ExecutedFor (command_of words) old new outcome

@@ -1,15 +1,16 @@
 -- The commands: the rows of words, and the plan and the job of each. A later command adds a row here.
-use Rattle.std.specs.Prelude.{ℕ, List, [], ◌∷◌, Option, Some, None, if◌then◌else◌, codes}
+use Rattle.std.specs.Prelude.{ℕ, Bool, true, false, List, [], ◌∷◌, Option, Some, None, if◌then◌else◌, codes}
 use Rattle.std.specs.Option.{option_map}
 use Rattle.std.specs.Str.{bytes_eq}
 use Rattle.heco_jobs.specs.Agents.{Agents}
 use Rattle.heco_jobs.specs.Jobs.{Job}
 use Rattle.heco_jobs.specs.Plans.{Plan}
 use Rattle.heco_jobs.specs.Words.{are_distinct}
-use Rattle.heco_tasks.specs.CircuitTasks.{show_plan, draw_plan, keys_plan, encrypt_plan, decrypt_plan, show_job, draw_job, keys_job, encrypt_job, decrypt_job}
+use Rattle.heco_exec.specs.ExecTask.{exec_plan, exec_job}
+use Rattle.heco_tasks.specs.CircuitTasks.{show_plan, draw_plan, keys_plan, encrypt_plan, run_plan, decrypt_plan, show_job, draw_job, keys_job, encrypt_job, run_job, decrypt_job}
 use Rattle.heco_tasks.specs.SourceTasks.{plain_plan, plain_job, compile_plan, compile_job}
 use Rattle.heco_top.specs.declared.command.Command.{Command}
-use Rattle.heco_top.specs.declared.command.Command.TheVariants.{Plain, Compile, Show, Draw, Keys, Encrypt, Decrypt}
+use Rattle.heco_top.specs.declared.command.Command.TheVariants.{Plain, Compile, Show, Draw, Keys, Encrypt, Run, Decrypt, Exec}
 use Rattle.heco_top.specs.Seeds.{seed_of}
 
 -- ---- the rows of words
@@ -47,10 +48,21 @@ abbrev pub encrypt_of : List (List ℕ) → Option Command
 encrypt_of (circuit ∷ evaluation ∷ material ∷ inputs ∷ ciphertexts ∷ []) = where_distinct (circuit ∷ evaluation ∷ material ∷ inputs ∷ ciphertexts ∷ []) (Some Encrypt)
 encrypt_of words = None
 
+-- run CIR EVA CTS RES
+abbrev pub run_of : List (List ℕ) → Option Command
+run_of (circuit ∷ evaluation ∷ ciphertexts ∷ results ∷ []) = where_distinct (circuit ∷ evaluation ∷ ciphertexts ∷ results ∷ []) (Some Run)
+run_of words = None
+
 -- decrypt CIR SEC RES
 abbrev pub decrypt_of : List (List ℕ) → Option Command
 decrypt_of (circuit ∷ secret ∷ results ∷ []) = where_distinct (circuit ∷ secret ∷ results ∷ []) (Some Decrypt)
 decrypt_of words = None
+
+-- exec SRC IN KMAT EMAT CIR SEC EVA CTS RES
+abbrev pub exec_of : List (List ℕ) → Option Command
+exec_of (source ∷ inputs ∷ keys ∷ material ∷ circuit ∷ secret ∷ evaluation ∷ ciphertexts ∷ results ∷ []) =
+    where_distinct (source ∷ inputs ∷ keys ∷ material ∷ circuit ∷ secret ∷ evaluation ∷ ciphertexts ∷ results ∷ []) (Some Exec)
+exec_of words = None
 
 abbrev pub command_of : List (List ℕ) → Option Command
 command_of (c ∷ rest) =
@@ -60,7 +72,9 @@ command_of (c ∷ rest) =
     if bytes_eq c (codes "draw") then draw_of rest else
     if bytes_eq c (codes "keys") then keys_of rest else
     if bytes_eq c (codes "encrypt") then encrypt_of rest else
-    if bytes_eq c (codes "decrypt") then decrypt_of rest else None
+    if bytes_eq c (codes "run") then run_of rest else
+    if bytes_eq c (codes "decrypt") then decrypt_of rest else
+    if bytes_eq c (codes "exec") then exec_of rest else None
 command_of [] = None
 
 -- ---- the plans and the jobs
@@ -72,7 +86,21 @@ plan_of Show = show_plan
 plan_of (Draw seed) = draw_plan
 plan_of Keys = keys_plan
 plan_of Encrypt = encrypt_plan
+plan_of Run = run_plan
 plan_of Decrypt = decrypt_plan
+plan_of Exec = exec_plan
+
+-- whether it asks the picker
+abbrev pub asks : Command → Bool
+asks Plain = false
+asks Compile = false
+asks Show = false
+asks (Draw seed) = false
+asks Keys = false
+asks Encrypt = false
+asks Run = true
+asks Decrypt = false
+asks Exec = true
 
 abbrev pub job_of : Agents → Command → Job
 job_of agents Plain = plain_job agents
@@ -81,4 +109,6 @@ job_of agents Show = show_job agents
 job_of agents (Draw seed) = draw_job agents seed
 job_of agents Keys = keys_job agents
 job_of agents Encrypt = encrypt_job agents
+job_of agents Run = run_job agents
 job_of agents Decrypt = decrypt_job agents
+job_of agents Exec = exec_job agents

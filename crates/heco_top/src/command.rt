@@ -2,7 +2,7 @@ ghost use Rattle.std.specs.Prelude.{◌≡◌};
 ghost use Rattle.std.specs.List.{list_any};
 ghost use Rattle.std.specs.Str.{bytes_eq};
 ghost use Rattle.heco_jobs.specs.Words.{texts, are_distinct};
-ghost use Rattle.heco_top.specs.Commands.{command_of, plain_of, compile_of, show_of, draw_of, keys_of, encrypt_of, decrypt_of};
+ghost use Rattle.heco_top.specs.Commands.{command_of, plain_of, compile_of, show_of, draw_of, keys_of, encrypt_of, run_of, decrypt_of, exec_of};
 
 use crate::seed::seed_of;
 
@@ -15,7 +15,9 @@ pub enum Command {
     Draw { seed: u64 },
     Keys,
     Encrypt,
+    Run,
     Decrypt,
+    Exec,
 }
 
 fn is_among(name: &str, words: &[String]) -> bool
@@ -124,6 +126,20 @@ fn encrypt_of(words: &[String]) -> Option<Command>
     }
 }
 
+// run CIR EVA CTS RES
+fn run_of(words: &[String]) -> Option<Command>
+    ensures { result ≡ run_of (texts words.now) }
+{
+    let [_, _, _, _] = words else {
+        return None;
+    };
+    if are_distinct(words) {
+        Some(Command::Run)
+    } else {
+        None
+    }
+}
+
 // decrypt CIR SEC RES
 fn decrypt_of(words: &[String]) -> Option<Command>
     ensures { result ≡ decrypt_of (texts words.now) }
@@ -133,6 +149,20 @@ fn decrypt_of(words: &[String]) -> Option<Command>
     };
     if are_distinct(words) {
         Some(Command::Decrypt)
+    } else {
+        None
+    }
+}
+
+// exec SRC IN KMAT EMAT CIR SEC EVA CTS RES
+fn exec_of(words: &[String]) -> Option<Command>
+    ensures { result ≡ exec_of (texts words.now) }
+{
+    let [_, _, _, _, _, _, _, _, _] = words else {
+        return None;
+    };
+    if are_distinct(words) {
+        Some(Command::Exec)
     } else {
         None
     }
@@ -164,8 +194,14 @@ pub fn command_of(words: &[String]) -> Option<Command>
     if command == "encrypt" {
         return encrypt_of(rest);
     }
+    if command == "run" {
+        return run_of(rest);
+    }
     if command == "decrypt" {
         return decrypt_of(rest);
+    }
+    if command == "exec" {
+        return exec_of(rest);
     }
     None
 }

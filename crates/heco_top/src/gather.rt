@@ -1,11 +1,16 @@
-ghost use Rattle.heco_jobs.specs.Agents.{Agents};
+ghost use Rattle.std.specs.Prelude.{◌≡◌, false, IfErr};
+ghost use Rattle.heco_jobs.specs.Agents.{agents};
+ghost use Rattle.heco_jobs.specs.Laws.{IsLeft};
 ghost use Rattle.heco_jobs.specs.Stages.{IsGathered};
 ghost use Rattle.heco_jobs.specs.Words.{texts};
-ghost use Rattle.heco_top.specs.Commands.{plan_of, job_of};
+ghost use Rattle.heco_top.specs.Commands.{plan_of, job_of, asks};
 
 use crate::command::Command;
+use crate::exec::gather_exec;
+use crate::run::gather_run;
 use heco_jobs::{Outcome, Product};
 use heco_outside::Store;
+use heco_sched::Picker;
 use heco_tasks::{
     gather_compile, gather_decrypt, gather_draw, gather_encrypt, gather_keys, gather_plain,
     gather_show,
@@ -18,8 +23,13 @@ pub fn gather<S: Store>(
     command: Command,
     words: &[String],
     store: &mut S,
+    picker: &mut Box<dyn Picker>,
 ) -> Result<Product, Outcome>
-    ensures { (agents : Agents) → IsGathered S.Store (texts words.now) (plan_of command) (job_of agents command) agents store.old store.new result }
+    ensures gathered { IsGathered S.Store (texts words.now) (plan_of command) (job_of (agents (rule picker.old) (state picker.old)) command)
+        (agents (rule picker.new) (state picker.new)) store.old store.new result }
+    ensures rule { rule picker.new ≡ rule picker.old }
+    ensures left { IfErr result (λ outcome. IsLeft outcome picker.old picker.new) }
+    ensures unasked { asks command ≡ false → picker.new ≡ picker.old }
 {
     match command {
         Command::Plain => gather_plain(alloc, words, store),
@@ -28,6 +38,8 @@ pub fn gather<S: Store>(
         Command::Draw { seed } => gather_draw(alloc, seed, words, store),
         Command::Keys => gather_keys(alloc, words, store),
         Command::Encrypt => gather_encrypt(alloc, words, store),
+        Command::Run => gather_run(alloc, words, store, picker),
         Command::Decrypt => gather_decrypt(alloc, words, store),
+        Command::Exec => gather_exec(alloc, words, store, picker),
     }
 }

@@ -2,7 +2,9 @@
 #![tactic(auto)]
 
 mod command;
+mod exec;
 mod gather;
+mod run;
 mod seed;
 mod top;
 

@@ -1,6 +1,7 @@
 use crate::{Outcome, heco};
 use heco_nums::{Bytes, List};
 use heco_outside::{MemSink, MemStore};
+use heco_sched::{First, Picker};
 use std::alloc::{AllocError, Global};
 use std::test::Fail;
 
@@ -130,7 +131,8 @@ fn run(
     store.put("f.he", text_of(alloc, row.source)?.as_slice())?;
     store.put("f.in", text_of(alloc, row.input)?.as_slice())?;
     let words = split(alloc, row.words)?;
-    Ok(heco(alloc, words.as_slice(), &mut store, out, err))
+    let mut picker: Box<dyn Picker> = Box::new(alloc, First)?;
+    Ok(heco(alloc, words.as_slice(), &mut store, out, err, &mut picker))
 }
 
 // Whether the row is answered as it says, and a failing error stream changes nothing but the line.

@@ -1,37 +1,42 @@
 ghost use Rattle.std.specs.Prelude.{◌≡◌, ◌≢◌, [], IsTrue, MatchOption};
 ghost use Rattle.heco_outside.specs.Causes.{Rose};
-ghost use Rattle.heco_jobs.specs.Agents.{Agents};
+ghost use Rattle.heco_jobs.specs.Agents.{agents};
 ghost use Rattle.heco_jobs.specs.Endings.{JobEnds};
 ghost use Rattle.heco_jobs.specs.Laws.{Stands, HasFiles, IsUntouched, IsOkOrMemory, IsNoFault};
 ghost use Rattle.heco_jobs.specs.Lines.{line_of, Reports};
 ghost use Rattle.heco_jobs.specs.Outsides.{outside};
 ghost use Rattle.heco_jobs.specs.Plans.{IsCause};
 ghost use Rattle.heco_jobs.specs.Words.{texts};
-ghost use Rattle.heco_top.specs.Answers.{HasCause, Untouched, Ends, FollowsPlan, DoneIfOk, PrintsPlain, IsClearIn, IsReadyIn};
-ghost use Rattle.heco_top.specs.Commands.{command_of, plan_of, job_of};
+ghost use Rattle.heco_top.specs.Answers.{HasCause, Untouched, PickerLeft, Ends, FollowsPlan, DoneIfOk, PrintsPlain, PrintsExec, IsClearIn, IsReadyIn};
+ghost use Rattle.heco_top.specs.Commands.{command_of, plan_of, job_of, asks};
 
 use crate::command::{Command, command_of};
 use crate::gather::gather;
 use heco_jobs::{Outcome, Refusal, finish, report_outcome};
 use heco_outside::{Sink, Store};
+use heco_sched::Picker;
 use std::alloc::Global;
 
 // Gathers all that the command gives, and then writes and prints it.
-fn run<S: Store, O: Sink>(
+fn perform<S: Store, O: Sink>(
     alloc: Global,
     command: Command,
     words: &[String],
     store: &mut S,
     out: &mut O,
+    picker: &mut Box<dyn Picker>,
 ) -> Outcome
     ensures cause { IsCause (plan_of command) (S.faults store.old) (S.faults store.new) (O.faults out.old) (O.faults out.new) result }
     ensures untouched { IsUntouched (plan_of command).prints result out.old out.new }
-    ensures told { IsTrue S.tells → IsTrue O.tells → (agents : Agents)
-        → JobEnds (texts words.now) (job_of agents command) agents (outside S.Store O.Sink store.old out.old) (outside S.Store O.Sink store.new out.new) result }
-    ensures steady { IsTrue S.tells → S.steady store.old → O.steady out.old → (agents : Agents) → HasFiles (texts words.now) (job_of agents command) (S.file store.old)
+    ensures picker { IsUntouched (asks command) result picker.old picker.new }
+    ensures rule { rule picker.new ≡ rule picker.old }
+    ensures told { IsTrue S.tells → IsTrue O.tells → JobEnds (texts words.now) (job_of (agents (rule picker.old) (state picker.old)) command)
+        (agents (rule picker.new) (state picker.new)) (outside S.Store O.Sink store.old out.old) (outside S.Store O.Sink store.new out.new) result }
+    ensures steady { IsTrue S.tells → S.steady store.old → O.steady out.old
+        → HasFiles (texts words.now) (job_of (agents (rule picker.old) (state picker.old)) command) (S.file store.old)
         → (S.faults store.new ≡ S.faults store.old) × (O.faults out.new ≡ O.faults out.old) × IsNoFault result }
 {
-    match gather(alloc, command, words, store) {
+    match gather(alloc, command, words, store, picker) {
         Ok(product) => finish(
             alloc,
             words,
@@ -45,27 +50,38 @@ fn run<S: Store, O: Sink>(
 }
 
 // What the words ask for, and what follows of every command.
-fn answer<S: Store, O: Sink>(alloc: Global, words: &[String], store: &mut S, out: &mut O) -> Outcome
+fn answer<S: Store, O: Sink>(
+    alloc: Global,
+    words: &[String],
+    store: &mut S,
+    out: &mut O,
+    picker: &mut Box<dyn Picker>,
+) -> Outcome
     ensures usage { MatchOption (command_of (texts words.now)) (result ≡ Outcome.Refused Refusal.Usage) (λ _. result ≢ Outcome.Refused Refusal.Usage) }
     ensures cause { HasCause (texts words.now) (S.faults store.old) (S.faults store.new) (O.faults out.old) (O.faults out.new) result }
     ensures untouched { Untouched (texts words.now) result out.old out.new }
-    ensures told { IsTrue S.tells → IsTrue O.tells → (agents : Agents) → Ends (texts words.now) agents agents (outside S.Store O.Sink store.old out.old) (outside S.Store O.Sink store.new out.new) result }
-    ensures quiet { IsTrue S.tells → S.steady store.old → O.steady out.old → (agents : Agents) → IsReadyIn (texts words.now) agents (S.file store.old)
+    ensures picker { PickerLeft (texts words.now) result picker.old picker.new }
+    ensures rule { rule picker.new ≡ rule picker.old }
+    ensures told { IsTrue S.tells → IsTrue O.tells → Ends (texts words.now) (agents (rule picker.old) (state picker.old)) (agents (rule picker.new) (state picker.new))
+        (outside S.Store O.Sink store.old out.old) (outside S.Store O.Sink store.new out.new) result }
+    ensures quiet { IsTrue S.tells → S.steady store.old → O.steady out.old → IsReadyIn (texts words.now) (agents (rule picker.old) (state picker.old)) (S.file store.old)
         → (S.faults store.new ≡ S.faults store.old) × (O.faults out.new ≡ O.faults out.old) × IsNoFault result }
 {
     match command_of(words) {
-        Some(command) => run(alloc, command, words, store, out),
+        Some(command) => perform(alloc, command, words, store, out, picker),
         None => Outcome::Refused(Refusal::Usage),
     }
 }
 
 /// Does what the words ask for, and says on `err` why it failed where it did. `words` are those behind the program's name.
+/// The picker chooses the order of every run.
 pub fn heco<S: Store, O: Sink, E: Sink>(
     alloc: Global,
     words: &[String],
     store: &mut S,
     out: &mut O,
     err: &mut E,
+    picker: &mut Box<dyn Picker>,
 ) -> Outcome
     // Usage exactly where the words ask for no command
     ensures usage { MatchOption (command_of (texts words.now)) (result ≡ Outcome.Refused Refusal.Usage) (λ _. result ≢ Outcome.Refused Refusal.Usage) }
@@ -76,14 +92,31 @@ pub fn heco<S: Store, O: Sink, E: Sink>(
     // standard output itself is as it was after a refusal and a read fault, and wherever the command prints nothing
     ensures untouched { Untouched (texts words.now) result out.old out.new }
 
-    // how the command's job ended: what was read, judged, written and printed; the agents were not asked
-    ensures told { IsTrue S.tells → IsTrue O.tells → (agents : Agents) → Ends (texts words.now) agents agents (outside S.Store O.Sink store.old out.old) (outside S.Store O.Sink store.new out.new) result }
+    // the picker is as it was after a refusal and a read fault, and wherever the command doesn't ask it
+    ensures picker { PickerLeft (texts words.now) result picker.old picker.new }
+
+    // what it answers in a state, and where that leads, stays whatever happens
+    ensures rule { rule picker.new ≡ rule picker.old }
+
+    // how the command's job ended: what was read, judged, written and printed, and how it left the picker
+    ensures told { IsTrue S.tells → IsTrue O.tells → Ends (texts words.now) (agents (rule picker.old) (state picker.old)) (agents (rule picker.new) (state picker.new))
+        (outside S.Store O.Sink store.old out.old) (outside S.Store O.Sink store.new out.new) result }
 
     // where `plain` is done, exactly the text of the source's outputs was printed
     ensures plain { IsTrue S.tells → IsTrue O.tells → PrintsPlain (texts words.now) (outside S.Store O.Sink store.old out.old) (outside S.Store O.Sink store.new out.new) result }
 
-    // where a command is done, exactly the files that it owes were written, all others stand, and exactly the text that it owes was printed
-    ensures done { IsTrue S.tells → IsTrue O.tells → (agents : Agents) → DoneIfOk (texts words.now) agents agents (outside S.Store O.Sink store.old out.old) (outside S.Store O.Sink store.new out.new) result }
+    // THE HEADLINE. Where `exec` is done: SRC was an accepted source, IN values of its inputs, KMAT and EMAT material within bounds for it; CIR spells a good
+    // circuit of the source, and SEC, EVA, CTS and RES are by the written formulas over CIR, KMAT, EMAT and IN; every other file stands; and standard output
+    // grew by exactly what decrypting RES with SEC over CIR prints, which is the text of the source's execution on these values
+    ensures headline { IsTrue S.tells → IsTrue O.tells → PrintsExec (texts words.now) (outside S.Store O.Sink store.old out.old) (outside S.Store O.Sink store.new out.new) result }
+
+    // after Ok nothing went to `err`
+    ensures silent { IsTrue E.tells → result ≡ Outcome.Ok → E.taken err.new ≡ E.taken err.old }
+
+    // where a command is done, exactly the files that it owes were written, all others stand, exactly the text that it owes was printed, and the picker
+    // is as the run leaves it
+    ensures done { IsTrue S.tells → IsTrue O.tells → DoneIfOk (texts words.now) (agents (rule picker.old) (state picker.old)) (agents (rule picker.new) (state picker.new))
+        (outside S.Store O.Sink store.old out.old) (outside S.Store O.Sink store.new out.new) result }
 
     // the store's calls grew by the first of the planned calls, of which only the last may have failed
     ensures planned { IsTrue S.tells → IsTrue O.tells → FollowsPlan (texts words.now) (outside S.Store O.Sink store.old out.old) (outside S.Store O.Sink store.new out.new) result }
@@ -96,14 +129,15 @@ pub fn heco<S: Store, O: Sink, E: Sink>(
         (E.faults err.old) (E.faults err.new) (E.shortages err.old) (E.shortages err.new) }
 
     // where no refusal is due and no count of faults rises, it is done unless memory runs out
-    ensures complete { IsTrue S.tells → IsTrue O.tells → (agents : Agents) → IsClearIn (texts words.now) agents (S.file store.old)
+    ensures complete { IsTrue S.tells → IsTrue O.tells → IsClearIn (texts words.now) (agents (rule picker.old) (state picker.old)) (S.file store.old)
         → ¬ Rose (S.faults store.old) (S.faults store.new) → ¬ Rose (O.faults out.old) (O.faults out.new) → IsOkOrMemory result }
 
     // over an undisturbed outside whose files are there, that no count rises is a fact
-    ensures steady { IsTrue S.tells → IsTrue O.tells → S.steady store.old → O.steady out.old → (agents : Agents) → IsReadyIn (texts words.now) agents (S.file store.old)
+    ensures steady { IsTrue S.tells → IsTrue O.tells → S.steady store.old → O.steady out.old
+        → IsReadyIn (texts words.now) (agents (rule picker.old) (state picker.old)) (S.file store.old)
         → IsOkOrMemory result × (S.faults store.new ≡ S.faults store.old) × (O.faults out.new ≡ O.faults out.old) }
 {
-    let outcome = answer(alloc, words, store, out);
+    let outcome = answer(alloc, words, store, out, picker);
     report_outcome(words, &outcome, err);
     outcome
 }

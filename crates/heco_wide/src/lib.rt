@@ -10,6 +10,3 @@ mod sums;
 mod tensor;
 
 pub use tensor::Tensor;
-
-#[cfg(test)]
-mod tests;

@@ -1,39 +1,16 @@
-use Rattle.std.proofs.Common.{◌≡◌, ◌∙◌, ◌≤◌, ◌<◌, ap, sym, subst, length, arith}
-use Rattle.std.specs.Prelude.{All, IfOk}
+use Rattle.std.proofs.Common.{◌≡◌, ◌∙◌, ap, subst}
+use Rattle.std.specs.Prelude.{IfOk}
 use Rattle.heco_ciphertext_files.specs.CiphertextFiles.{file_text, magic_of}
 use Rattle.heco_ciphertext_files.specs.declared.kind.FileKind.TheVariants.{Cts}
 use Rattle.heco_key_files.specs.KeyFiles.{lists_of}
-use Rattle.heco_nums.specs.Presets.{slots_of}
 use Rattle.heco_products.specs.Encrypting.{messages_file, encrypted_inputs}
-use Rattle.heco_products.proofs.CircuitFacts.{few_inputs, short_inputs}
-use Rattle.heco_products.proofs.Products.{fit_count, fit_below, fit_short}
 use Rattle.heco_products.proofs.encrypting.inputs_file.Goals as goal
-
-pub encrypt_inputs-requires-clause-count : goal.encrypt_inputs-requires-clause-count
-encrypt_inputs-requires-clause-count c =
-    ap length c.as_slice.ensures ∙ fit_count c.args.key.now.preset.t c.args.circuit.now.inputs c.args.inputs.now.rows c.requires.fit ∙ sym c.requires.within.count
-
-pub encrypt_inputs-requires-clause-few : goal.encrypt_inputs-requires-clause-few
-encrypt_inputs-requires-clause-few c =
-    omega (arith, ap length c.as_slice.ensures, fit_count c.args.key.now.preset.t c.args.circuit.now.inputs c.args.inputs.now.rows c.requires.fit, few_inputs c.args.circuit.now c.preset.ensures.valid)
-
-pub encrypt_inputs-requires-clause-short : goal.encrypt_inputs-requires-clause-short
-encrypt_inputs-requires-clause-short c =
-    let p = c.args.key.now.preset in
-    let slots : p.slots ≡ slots_of c.args.circuit.now.preset = p.row.3 ∙ ap slots_of c.requires.preset in
-    subst (All (λ row. length row ≤ p.slots)) (sym c.as_slice.ensures)
-    (fit_short p.t p.slots c.args.circuit.now.inputs c.args.inputs.now.rows c.requires.fit (subst (λ n. All (λ s. s.len ≤ n) c.args.circuit.now.inputs) (sym slots) (short_inputs c.args.circuit.now c.preset.ensures.valid)))
-
-pub encrypt_inputs-requires-clause-below : goal.encrypt_inputs-requires-clause-below
-encrypt_inputs-requires-clause-below c =
-    let t = c.args.key.now.preset.t in
-    subst (All (λ row. All (λ x. x < t) row)) (sym c.as_slice.ensures) (fit_below t c.args.circuit.now.inputs c.args.inputs.now.rows c.requires.fit)
 
 pub returns : goal.returns
 unfolding messages_file
 returns c =
     let p = c.args.key.now.preset in
-    let all = encrypted_inputs p (lists_of c.args.key.now) c.args.material.now.rows in
-    let cs = c.as_slice-2.ensures.value ∙ c.in_ok-ciphertexts.ensures.formula ∙ ap all c.as_slice.ensures in
-    subst (λ id. IfOk c.write_cts.result (λ bytes. bytes ≡ file_text (magic_of Cts) id (all c.args.inputs.now.rows))) (ap (λ q. q.id) c.preset-2.ensures)
-    (subst (λ x. IfOk c.write_cts.result (λ bytes. bytes ≡ file_text (magic_of Cts) c.preset-2.result.now.id x)) cs c.write_cts.ensures.text)
+    let all = encrypted_inputs p (lists_of c.args.key.now) c.args.material.now.rows c.args.inputs.now.rows in
+    let cs = c.as_slice.ensures.value ∙ c.in_ok-ciphertexts.ensures.formula in
+    subst (λ id. IfOk c.write_cts.result (λ bytes. bytes ≡ file_text (magic_of Cts) id all)) (ap (λ q. q.id) c.preset.ensures)
+    (subst (λ x. IfOk c.write_cts.result (λ bytes. bytes ≡ file_text (magic_of Cts) c.preset.result.now.id x)) cs c.write_cts.ensures.text)

@@ -1,0 +1,13 @@
+//! Circuits: why files are refused, and what is told, shown and meant by those that are read.
+#![tactic(auto)]
+
+#[cfg(test)]
+mod broken;
+#[cfg(test)]
+mod files;
+#[cfg(test)]
+mod listed;
+#[cfg(test)]
+mod meant;
+#[cfg(test)]
+mod told;

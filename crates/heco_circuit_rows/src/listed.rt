@@ -1,0 +1,36 @@
+use crate::files::circuit_of;
+use heco_circuit::Circuit;
+use heco_listing::listing;
+use std::alloc::Global;
+use std::test::Fail;
+
+// A circuit, and its listing, with `$` for each line end.
+const ROWS: &str =
+    "dot params p8$in a[8]$in b[8]$2 Mul 0 1 : 97975829$3 Relin 2 : 98691317$4 Turn 1 3 : 99406805$5 Add 3 4 : 198098122$6 Turn 2 5 : 198813610$7 Add 5 6 : 396911732$8 Turn 4 7 : 397627220$9 Add 7 8 : 794538952$out s[1] = 9@0$
+each params p8$in a[8]$in b[8]$2 Neg 0 : 4754$3 Add 0 2 : 9508$4 Mul 0 1 : 97975829$5 Relin 4 : 98691317$6 Scale 200 5 : 5625405069$7 Shift 256 6 : 5625405197$8 Turn 7 7 : 5626120685$out s[2] = 8@3 5$out u[1] = 3@0$";
+
+fn marked(c: u8) -> u8 {
+    if c == b'\n' { b'$' } else { c }
+}
+
+fn listing_of(alloc: Global, c: &Circuit) -> Result<Vec<u8>, Fail> {
+    let mut text = Vec::new(alloc);
+    for byte in listing(alloc, c)?.as_slice() {
+        text.push(marked(*byte))?;
+    }
+    Ok(text)
+}
+
+fn holds(alloc: Global, row: &str) -> Result<bool, Fail> {
+    let (name, wanted) = row.split_once(' ').ok_or("no file")?;
+    let c = circuit_of(alloc, name)?;
+    Ok(listing_of(alloc, &c)?.as_slice() == wanted.as_bytes())
+}
+
+#[test]
+fn each_circuit_is_shown(rt: HostRuntime) -> Result<(), Fail> {
+    for row in ROWS.lines() {
+        assert!(rt; holds(rt.alloc(), row)?, "{row}");
+    }
+    Ok(())
+}

@@ -1,0 +1,46 @@
+use heco_circuit::Circuit;
+use heco_draw::draw_values;
+use heco_eval::plain;
+use heco_meaning::meaning;
+use heco_nums::{Inputs, List, Outputs, Shape};
+use heco_types::Typed;
+use std::alloc::Global;
+use std::test::Fail;
+
+const SEED: u64 = 7;
+
+// A row for each input, of values in order.
+fn rows_of(alloc: Global, shapes: &[Shape], values: &[u32]) -> Result<Inputs, Fail> {
+    let mut rows = List::new(alloc);
+    let mut rest = values;
+    for shape in shapes {
+        let (row, after) = rest
+            .split_at_checked(shape.len as usize)
+            .ok_or("too few values")?;
+        rows.push(List::from_slice(alloc, row)?)?;
+        rest = after;
+    }
+    Ok(Inputs { rows })
+}
+
+fn are_same(found: &Outputs, wanted: &Outputs) -> bool {
+    let (found, wanted) = (found.rows.as_slice(), wanted.rows.as_slice());
+    if found.len() != wanted.len() {
+        return false;
+    }
+    for i in 0..wanted.len() {
+        if found[i].as_slice() != wanted[i].as_slice() {
+            return false;
+        }
+    }
+    true
+}
+
+/// Whether the circuit gives what the source gives, on drawn inputs.
+pub fn means_the_source(alloc: Global, t: &Typed, c: &Circuit) -> Result<bool, Fail> {
+    let values = draw_values(alloc, t.preset(), SEED, 1024)?;
+    let inputs = rows_of(alloc, t.inputs().as_slice(), values.as_slice())?;
+    let wanted = plain(alloc, t, &inputs).map_err(|_| "a rule of execution is broken")?;
+    let found = meaning(alloc, c, &inputs)?;
+    Ok(are_same(&found, &wanted))
+}

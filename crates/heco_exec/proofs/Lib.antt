@@ -1,0 +1,6 @@
+pub mod WrittenFiles
+pub mod Executed
+pub mod Ready
+pub mod JobLaws
+pub mod KeyLaws
+pub mod ChainLaws

@@ -1,0 +1,4 @@
+pub mod Chain
+pub mod ExecTask
+pub mod Headline
+pub mod Laws

@@ -1,0 +1,10 @@
+//! What `exec` gathers, up to its first write, and the headline: what it has done where it is done.
+#![tactic(auto)]
+
+mod chain;
+mod keys;
+mod laws;
+
+pub use chain::chain_product;
+pub use keys::read_key_words;
+pub use laws::{done_is_executed, given_is_ready};

@@ -1,0 +1,9 @@
+//! Keys and products of ciphertexts, by numbers that are known.
+#![tactic(auto)]
+
+#[cfg(test)]
+mod constant;
+#[cfg(test)]
+mod keys;
+#[cfg(test)]
+mod tensor;

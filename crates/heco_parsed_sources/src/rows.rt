@@ -1,0 +1,95 @@
+use crate::text::text_of;
+use heco_parse::{ParseErr, parse};
+use std::alloc::Global;
+use std::test::Fail;
+
+// A source, and what reading it answers.
+const ROWS: &str = "params p8;|Syntax 1:11
+params p8;@|BadByte 1:11
+params p8;~|Syntax 2:1
+|Syntax 1:1
+params p8;fn f(){}|Tree
+params p8; fn f(in x, out y) { y = x x; }|Syntax 1:38
+params p8;~fn f(in x, out y) {~y = ((((((((((((((((((((((((((((((((((((((((((((((((((((((((((((((((x)))))))))))))))))))))))))))))))))))))))))))))))))))))))))))))))); }|Tree
+params p8;~fn f(in x, out y) {~y = (((((((((((((((((((((((((((((((((((((((((((((((((((((((((((((((((x))))))))))))))))))))))))))))))))))))))))))))))))))))))))))))))))); }|TooNested 3:69
+params p8;~fn f(in x, out y) {~y = ((((((((((((((((((((((((((((((((((((((((((((((((((((((((((((((((x(|Syntax 3:70
+params p8;~fn f(in x, out y) {~y = (((((((((((((((((((((((((((((((((((((((((((((((((((((((((((((((((*|TooNested 3:69
+params p8;~fn f(in x, out y) {~y = ----------------------------------------------------------------x; }|Tree
+params p8;~fn f(in x, out y) {~y = -----------------------------------------------------------------x; }|TooNested 3:69
+params p8;~fn f(in x, out y) {~y = x; }|Tree
+params p8;~fn f(in x, out y) {~y[(((((((((((((((((((((((((((((((((((((((((((((((((((((((((((((((1)))))))))))))))))))))))))))))))))))))))))))))))))))))))))))))))] = x; }|Tree
+params p8;~fn f(in x, out y) {~y[((((((((((((((((((((((((((((((((((((((((((((((((((((((((((((((((1))))))))))))))))))))))))))))))))))))))))))))))))))))))))))))))))] = x; }|TooNested 3:66
+params p8;~fn f(in x, out y) {~y = ;  @ }|BadByte 3:8
+params p8;~fn f(in x, out y) {~y = x; // @ $ \\~}|Tree
+params p8;~fn f(in x, out y) {~y = x; } // the end|Tree
+params p8;~fn f(in x, out y) {~y = x; } /  x|BadByte 3:10
+params p8;^~fn f(out y)`{^~`y = ; }|Syntax 3:6
+params p8;~fn f(in x, out y) {~for i in 0...8 { } }|BadByte 3:13
+params p8;~fn f(in x, out y) {~for i in 0....8 { } }|Syntax 3:13
+params p8;~fn f(in x, out y) {~y = 00000000001; }|Syntax 3:15
+params p8;~fn f(in x, out y) {~y = 1234567890; }|Tree
+params p8;~fn f(in x, out y) {~for i0 in 0..2 { for i1 in 0..2 { for i2 in 0..2 { for i3 in 0..2 { for i4 in 0..2 { for i5 in 0..2 { for i6 in 0..2 { y = x; } } } } } } } }|Tree
+params p8;~fn f(in x, out y) {~for i0 in 0..2 { for i1 in 0..2 { for i2 in 0..2 { for i3 in 0..2 { for i4 in 0..2 { for i5 in 0..2 { for i6 in 0..2 { for j in 0..2 { } } } } } } } } }|TooNested 3:134
+params p8;~fn f(in x, out y) {~for i0 in 0..2 { for i1 in 0..2 { for i2 in 0..2 { for i3 in 0..2 { for i4 in 0..2 { for i5 in 0..2 { for i6 in 0..2 { for j in 0..2 ; } } } } } } } }|Syntax 3:134
+params p8;~fn f(in x, out y) {~for i0 in 0..2 { for i1 in 0..2 { for i2 in 0..2 { for i3 in 0..2 { for i4 in 0..2 { for i5 in 0..2 { for i6 in 0..2 { int w[2] = {1, 2}; } } } } } } } }|Tree
+params p8; fn f(in x,) {}|Syntax 1:22
+params p8; fn f(x) {}|Syntax 1:17
+params p8; fn f(in x[y]) {}|Syntax 1:22
+params p8; fn f(in x[8], out y[3]) {}|Tree
+params p8;~fn f(in x, out y) {~int w[2] = {1, }; }|Syntax 3:16
+params p8;~fn f(in x, out y) {~int w[0] = {}; }|Syntax 3:13
+params p8;~fn f(in x, out y) {~int k = -2*3 - 1; secret s; secret t = x*k; secret u[3]; u[k+1] += t; y -= s; y *= 2; }|Tree
+params p8;~fn f(in x, out y) {~int for = 1; }|Syntax 3:5
+params p8;~fn f(in x, out y) {~y = -x*x + (x - 1) - (x - (1 + 2)); }|Tree
+params p8;~fn f(in x, out y) {~y = x**x; }|Syntax 3:7
+params p8;~fn f(in x, out y) {~y + = x; }|Syntax 3:3
+params p8;~fn f(in x, out y) {~y = x[(1)]; }|Tree
+params p8;~fn f(in x, out y) {~y = x[1; }|Syntax 3:8
+params p8;~fn f(in x, out y) {~y = (x)(x); }|Syntax 3:8
+params p8;~fn f(in x, out y) {~y = x; } }|Syntax 3:10
+params p8;~fn f(in x, out y) {~y = x;|Syntax 3:7
+params 8;|Syntax 1:8
+params if_;fn if(){}|Syntax 1:15
+params p8;~fn f(in x, out y) {~if x { } }|Syntax 3:1
+params p8;~fn f(in x, out y) {~def = 1; }|Syntax 3:1";
+
+fn refusal(alloc: Global, e: ParseErr) -> Result<String, Fail> {
+    match e {
+        ParseErr::At { rule, at } => Ok(format!(in alloc; "{rule:?} {}:{}", at.line, at.col)?),
+        e => Ok(format!(in alloc; "{e}")?),
+    }
+}
+
+fn answer(alloc: Global, text: &[u8]) -> Result<String, Fail> {
+    match parse(alloc, text).err() {
+        None => Ok(String::from_str(alloc, "Tree")?),
+        Some(e) => refusal(alloc, e),
+    }
+}
+
+fn holds(alloc: Global, row: &str) -> Result<bool, Fail> {
+    let (field, wanted) = row.split_once('|').ok_or("no answer")?;
+    let text = text_of(alloc, field)?;
+    Ok(answer(alloc, text.as_slice())?.as_str() == wanted)
+}
+
+#[test]
+fn sources_and_their_answers(rt: HostRuntime) -> Result<(), Fail> {
+    for row in ROWS.lines() {
+        assert!(rt; holds(rt.alloc(), row)?, "{row}");
+    }
+    Ok(())
+}
+
+// What so many spaces answer.
+fn spaces(alloc: Global, count: usize) -> Result<String, Fail> {
+    let text = vec![in alloc; b' '; count]?;
+    answer(alloc, text.as_slice())
+}
+
+#[test]
+fn the_longest_source(rt: HostRuntime) -> Result<(), Fail> {
+    assert_eq!(rt; spaces(rt.alloc(), 65_537)?.as_str(), "SourceLong");
+    assert_eq!(rt; spaces(rt.alloc(), 65_536)?.as_str(), "Syntax 1:65537");
+    Ok(())
+}

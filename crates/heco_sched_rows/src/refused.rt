@@ -1,0 +1,42 @@
+use crate::events::{circuit_of, event_of};
+use heco_sched::{Board, Event};
+use std::alloc::Global;
+use std::test::Fail;
+
+// The file of the dot product of eight.
+const DOT: &str =
+    "4843495201010002000000016100080000000162000800000008040000000000000001050000000208000100000003020000000300000004080002000000050200000005000000060800040000000702000000070000000800010000000173000101000000090000";
+
+// Events on its board in order, with the answer to each.
+const EVENTS: &str = "claim 0 0|done
+claim 1 0|Taken { worker: 0 }
+claim 0 1|NotIdle { gate: 0 }
+claim 1 1|NotReady { wire: 2 }
+finish 1|NotBusy
+claim 4 0|NoWorker
+claim 0 8|NoGate
+finish 0|done
+claim 0 0|Done";
+
+fn answer(alloc: Global, board: &mut Board, event: Event) -> Result<String, Fail> {
+    match board.step(event) {
+        Ok(()) => Ok(String::from_str(alloc, "done")?),
+        Err(e) => Ok(format!(in alloc; "{e:?}")?),
+    }
+}
+
+fn holds(alloc: Global, board: &mut Board, row: &str) -> Result<bool, Fail> {
+    let (event, wanted) = row.split_once('|').ok_or("no answer")?;
+    Ok(answer(alloc, board, event_of(event)?)?.as_str() == wanted)
+}
+
+#[test]
+fn a_board_refuses_an_event_for_its_first_reason(rt: HostRuntime) -> Result<(), Fail> {
+    let circuit = circuit_of(rt.alloc(), DOT)?;
+    let mut board = Board::open(rt.alloc(), &circuit, 4)?;
+    assert_eq!(rt; board.legal(), 4);
+    for row in EVENTS.lines() {
+        assert!(rt; holds(rt.alloc(), &mut board, row)?, "{row}");
+    }
+    Ok(())
+}
