@@ -103,7 +103,26 @@ params p9;fn f(){}|none||f.he:1:8: UnknownParams$|1
 f(in x, out y) { y = x; }|none||f.in: read fault$|4
 f(in a[8], out y) { y = a[8]; }|none||f.in: read fault$|4
 none|x = 1||f.he: read fault$|4
-none|none||f.he: read fault$|4";
+none|none||f.he: read fault$|4
+f(in x, in z, out y) { y = x*z + x; y = y*y; }|x = 20$z = 30$|y = 185$||0
+f(in x, in z, out y) { y = x*z + x; y = y*y; }|x = 0$z = 256$|y = 0$||0
+f(in x, out y) { y = x; }|x = 256$|y = 256$||0
+f(in x) {}|x = 1$|||0
+f() {}||||0
+f(in x, in z, out y) { y = x*z + x; y = y*y; }|# values$ z = 030\r$$\tx=20|y = 185$||0
+f(in a[8], in b[8], out s) { for i in 0..8 { s += a[i]*b[i]; } }|a = 1 2 3 4 5 6 7 8$b = 1 1 1 1 1 1 1 1|s = 36$||0
+f(in x, out y[2], out z) { y[1] = x - 3; z = -x; }|x = 1|y = 0 255$z = 256$||0
+f(in x, out y) { y = x ? x; }|||f.he:1:38: BadByte$|1
+f(in x, out y) { y = x }|||f.he:1:38: Syntax$|1
+params p9; fn f(in x, out y) { y = x; }|||f.he:1:8: UnknownParams$|1
+f(in x, out y) { y = w; }|bad||f.he:1:36: UnknownName$|1
+f(in x, out y) { secret x; }|||f.he:1:39: Redeclared$|1
+f(in x[9], out y) {}|||f.he:1:22: Length$|1
+params p8;$fn f(in a[8], out y) {$  for i in 0..9 { y +=  a[i]; } }|a = 1 1 1 1 1 1 1 1||f.he:3:25: IndexRange$|1
+params p8;$fn f(in a[8], out y) {$  for i in 0..9 { y +=  a[i]; } }|a = 1 1 1 1 1 1 1||f.in:1: InputCount$|3
+f(in x, out y) { y = x; }|x = 257$||f.in:1: InputValue$|3
+f(in x, out y) { y = x; }|$x = 1$x = 1||f.in:3: InputName$|3
+f(in x, in z) {}|x = 1||f.in: InputMissing 1$|3";
 
 fn put(alloc: Global, bench: &mut Bench, name: &str, field: &str) -> Result<(), Fail> {
     if field == "none" {
@@ -124,6 +143,59 @@ fn holds(alloc: Global, row: &str) -> Result<bool, Fail> {
     bench.step(alloc, "plain f.he f.in")?;
     let want = format!(in alloc; "{status}|{line}|{printed}")?;
     Ok(bench.left(alloc)?.as_str() == want.as_str())
+}
+
+// The words, which call of the store and which of standard output fails (0 for none), the line on the error stream and
+// the status, over a source and an input text that are there.
+const WORDS: &str = "|0|0|usage: heco COMMAND WORDS$|2
+plain|0|0|usage: heco COMMAND WORDS$|2
+plain f.he|0|0|usage: heco COMMAND WORDS$|2
+plain f.he f.in f.in|0|0|usage: heco COMMAND WORDS$|2
+plain f.he f.he|0|0|usage: heco COMMAND WORDS$|2
+show f.he f.in|0|0|usage: heco COMMAND WORDS$|2
+plain no.he f.in|0|0|no.he: read fault$|4
+plain f.he no.in|0|0|no.in: read fault$|4
+plain f.he f.in|1|0|f.he: read fault$|4
+plain f.he f.in|2|0|f.in: read fault$|4
+plain f.he f.in|0|1|standard output: write fault$|4";
+
+// The words over files that are there, where those calls fail: the first one of the error stream, or none for 0.
+fn given(
+    alloc: Global,
+    words: &str,
+    store_fails: u64,
+    out_fails: u64,
+    err_fails: u64,
+) -> Result<String, Fail> {
+    let mut bench = Bench::new(alloc, store_fails, out_fails, err_fails)?;
+    put(alloc, &mut bench, "f.he", "f(in x, out y) { y = x; }")?;
+    put(alloc, &mut bench, "f.in", "x = 1")?;
+    bench.step(alloc, words)?;
+    bench.left(alloc)
+}
+
+// Whether the words are answered as the row says, and a failing error stream changes nothing but the line.
+fn answers(alloc: Global, row: &str) -> Result<bool, Fail> {
+    let mut fields = row.split('|');
+    let words = fields.next().ok_or("no words")?;
+    let store_fails = fields.next().ok_or("no call")?.parse::<u64>()?;
+    let out_fails = fields.next().ok_or("no call")?.parse::<u64>()?;
+    let line = text_of(alloc, fields.next().ok_or("no line")?)?;
+    let status = fields.next().ok_or("no status")?;
+    let told = format!(in alloc; "{status}|{line}|")?;
+    let silent = format!(in alloc; "{status}||")?;
+    Ok(
+        given(alloc, words, store_fails, out_fails, 0)?.as_str() == told.as_str()
+            && given(alloc, words, store_fails, out_fails, 1)?.as_str() == silent.as_str(),
+    )
+}
+
+#[test]
+fn words_and_faults_have_their_answers(rt: HostRuntime) -> Result<(), Fail> {
+    for row in WORDS.lines() {
+        assert!(rt; answers(rt.alloc(), row)?, "{row}");
+    }
+    Ok(())
 }
 
 #[test]

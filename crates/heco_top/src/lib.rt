@@ -11,6 +11,3 @@ mod top;
 pub use heco_jobs::{Outcome, Refusal};
 pub use heco_texts::InputRule;
 pub use top::{heco, refuse_words};
-
-#[cfg(test)]
-mod tests;
