@@ -70,7 +70,7 @@ run 0 &
 soon builds 3
 (cd / && ROOM=$room PATH=$room/bin:$PATH "$room/heco" 4) >/dev/null 2>"$room/second" &
 second=$!
-soon grep -q "waiting for another" "$room/second"
+soon grep -sq "waiting for another" "$room/second"
 rm "$room/hold"
 wait "$second"
 status=$?
