@@ -9,6 +9,7 @@ mod gather;
 mod half;
 mod image;
 mod inverse;
+mod preset;
 mod product;
 mod residue;
 mod signed;
