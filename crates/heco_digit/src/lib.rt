@@ -4,7 +4,7 @@
 mod digits;
 mod law;
 
-pub use digits::digits_into;
+pub use digits::{digits_into, digits_plain_into};
 pub use law::digits_add_up;
 
 #[cfg(test)]

@@ -10,7 +10,7 @@ use lib.ListN.{length, get_or, set}
 use lib.Bits.{bit_and}
 use Rattle.std.proofs.Common.{below_more}
 use Rattle.std.proofs.lemmas.Nat.{mod_below}
-use Rattle.std.proofs.lemmas.Bool.{cases_eq}
+use Rattle.std.proofs.lemmas.Bool.{cases_eq, cases_lt}
 use Rattle.std.proofs.lemmas.List.{get_or-set_same, get_or-set_other}
 use Rattle.heco_ring.proofs.Integers.{lines, z_mul_one, z_mul_zero, z_mul_minus}
 use Rattle.heco_ring.proofs.Pairing.{sign_here, sign_past, sign_else}
@@ -46,6 +46,18 @@ changed_more n i v old new f h e c d =
       done = below_more _ _ (λ k l. let ne : k ≢ i = omega arith in rw get_or-set_other (c.done k l)) (rw get_or-set_same (d ∙ ap (f i) (c.rest i (omega arith) h)));
       rest = λ k g l. let ne : k ≢ i = omega arith in rw get_or-set_other (c.rest k (omega arith) l);
     }
+
+pub changed_four : (n i : ℕ) (old new newer : List ℕ) (f : ℕ → ℕ → ℕ) → i + 4 ≤ n → Changed n i old new f →
+    ((j : ℕ) → j < 4 → get_or newer (i + j) 0 ≡ f (i + j) (get_or new (i + j) 0)) → ((k : ℕ) → k < i → get_or newer k 0 ≡ get_or new k 0) →
+    ((k : ℕ) → i + 4 ≤ k → get_or newer k 0 ≡ get_or new k 0) → Changed n (i + 4) old newer f
+changed_four n i old new newer f room c lanes before after = record {
+  done = λ k l. elim (cases_lt k i) [
+    | inl lt ↦ before k lt ∙ c.done k lt
+    | inr le ↦ (let e : i + (k - i) ≡ k = omega arith in
+        rw e at (lanes (k - i) (omega arith)) ∙ ap (f k) (c.rest k le (omega arith)))
+  ];
+  rest = λ k g l. after k g ∙ c.rest k (omega arith) l;
+}
 
 -- ---- the turn
 -- what the first i places have come to at place k

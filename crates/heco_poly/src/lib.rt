@@ -2,6 +2,7 @@
 #![tactic(auto)]
 
 mod add;
+mod lanes;
 mod plain;
 mod poly;
 mod product;

@@ -1,12 +1,14 @@
-ghost use Rattle.std.specs.Prelude.{◌≡◌, ◌*◌, ◌<◌, ◌≤◌, ◌^◌, All, IfOk, length, slice_index, slice_set, replicate};
+ghost use Rattle.std.specs.Prelude.{◌≡◌, ◌+◌, ◌*◌, ◌<◌, ◌≤◌, ◌^◌, ℕ, All, IfOk, length, slice_index, slice_set, replicate};
 ghost use Rattle.std.specs.Int.RustNames.{unsigned_abs};
+ghost use Rattle.std.specs.Simd.Lanes.{put_chunk};
 ghost use Rattle.heco_ring.specs.Remainders.{reduced};
 ghost use Rattle.heco_ring.specs.Ring.{wholes, plus, negate, scale, times, turn};
 
-use crate::{add, plain, product, residue, scale, small, sparse, sub, turn};
+use crate::{add, lanes, plain, product, residue, scale, small, sparse, sub, turn};
 use heco_nums::{Memory, Preset};
 use std::alloc::Global;
 use std::marker::Model;
+use std::simd::prelude::*;
 
 /// A polynomial modulo q = 2^58, where x^n is -1: contracts see the list of its n coefficients, each below q.
 #[derive(Debug, Drop)]
@@ -66,6 +68,16 @@ impl Poly {
         ensures { self.new ≡ slice_set self.old i v }
     {
         self.places[i as usize] = v;
+    }
+
+    /// Makes coefficients i to i + 3 the lanes of v.
+    pub fn set_four(&mut self, i: u32, v: u64x4)
+        requires inside { i + 4 ≤ length self.old }
+        requires below { (j : ℕ) → j < 4 → slice_index v j < 2 ^ 58 }
+        ensures value { self.new ≡ put_chunk i self.old v }
+        ensures long { length self.new ≡ length self.old }
+    {
+        lanes::put_four(self.places.as_mut_slice(), i as usize, v);
     }
 
     /// Takes the coefficients of o.

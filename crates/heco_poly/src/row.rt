@@ -4,12 +4,18 @@ ghost use Rattle.heco_ring.specs.Remainders.{rem};
 ghost use Rattle.heco_ring.specs.Ring.{wholes};
 ghost use Rattle.heco_ring.specs.Rows.{shift_at};
 
-/// Each place of out gains c times that of b, in words that wrap. A faster kernel changes this function alone.
+use crate::lanes::{LANES, add_four};
+
+/// Each place of out gains c times that of b, in words that wrap: four at once, and the rest one by one.
 fn add_multiple(out: &mut [u64], b: &[u64], c: u64)
     requires { length b.now ≡ length out.old }
     ensures { EachIndex out.new (λ k. slice_index out.new k ≡ (slice_index out.old k + c * slice_index b.now k) % 2 ^ 64) }
 {
-    for i in 0..out.len() {
+    let fours = out.len() / LANES;
+    for four in 0..fours {
+        add_four(out, b, c, LANES * four);
+    }
+    for i in LANES * fours..out.len() {
         out[i] = out[i].wrapping_add(c.wrapping_mul(b[i]));
     }
 }
