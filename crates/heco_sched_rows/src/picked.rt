@@ -1,5 +1,6 @@
-use crate::events::{circuit_of, event_of};
+use crate::events::{board_of, event_of};
 use heco_sched::{Board, Event};
+use std::alloc::Global;
 use std::test::Fail;
 
 // Four scalars, the sum of two products of them relinearised.
@@ -29,13 +30,25 @@ fn is_next(board: &mut Board, row: &str) -> Result<bool, Fail> {
     Ok(first_legal(board) == Some(event) && board.step(event) == Ok(()))
 }
 
+// The first row whose event is not the next, where there is one.
+fn first_other(board: &mut Board) -> Result<Option<&'static str>, Fail> {
+    for row in EVENTS.lines() {
+        if !is_next(board, row)? {
+            return Ok(Some(row));
+        }
+    }
+    Ok(None)
+}
+
+// The first row that is not so, and what is legal behind all rows.
+fn found(alloc: Global) -> Result<(Option<&'static str>, Option<Event>), Fail> {
+    let mut board = board_of(alloc, SUM_OF_PRODUCTS)?;
+    let other = first_other(&mut board)?;
+    Ok((other, first_legal(&board)))
+}
+
 #[test]
 fn two_products_overlap_where_the_first_legal_event_is_picked(rt: HostRuntime) -> Result<(), Fail> {
-    let circuit = circuit_of(rt.alloc(), SUM_OF_PRODUCTS)?;
-    let mut board = Board::open(rt.alloc(), &circuit, 4)?;
-    for row in EVENTS.lines() {
-        assert!(rt; is_next(&mut board, row)?, "{row}");
-    }
-    assert_eq!(rt; first_legal(&board), None);
+    assert_eq!(rt; found(rt.alloc())?, (None, None));
     Ok(())
 }

@@ -52,11 +52,23 @@ fn meant(c: u8) -> u8 {
     }
 }
 
-/// The text that a part of a row stands for: `$` is LF there, `^` is CR, and `~` is a tab.
-pub fn text_of(alloc: Global, part: &str) -> Result<Bytes, Memory> {
-    let mut text = Bytes::new(alloc);
+/// Whether a text is the one that a part of a row stands for.
+pub fn is_text(text: &[u8], part: &str) -> bool {
+    let part = part.as_bytes();
+    text.len() == part.len() && text.iter().zip(part).all(|(c, mark)| *c == meant(*mark))
+}
+
+/// Puts the text that a part of a row stands for behind another.
+pub fn put_text(text: &mut Bytes, part: &str) -> Result<(), Memory> {
     for c in part.as_bytes() {
         text.push(meant(*c))?;
     }
+    Ok(())
+}
+
+/// The text that a part of a row stands for: `$` is LF there, `^` is CR, and `~` is a tab.
+pub fn text_of(alloc: Global, part: &str) -> Result<Bytes, Memory> {
+    let mut text = Bytes::new(alloc);
+    put_text(&mut text, part)?;
     Ok(text)
 }

@@ -1,5 +1,5 @@
-use crate::answer::{answer, text_of};
-use heco_nums::{Bytes, Memory, Preset};
+use crate::answer::{answer, is_text, put_text};
+use heco_nums::{Bytes, Preset};
 use std::alloc::Global;
 use std::test::Fail;
 
@@ -21,9 +21,9 @@ x 1|4194302| ||InputLong
 |4194304|#||InputMissing 0
 |4194303| |#|InputMissing 0";
 
-fn put_copies(text: &mut Bytes, count: u32, byte: u8) -> Result<(), Memory> {
-    for _ in 0..count {
-        text.push(byte)?;
+fn put_copies(text: &mut Bytes, count: &str, part: &str) -> Result<(), Fail> {
+    for _ in 0..count.parse::<u32>().map_err(|_| "no number")? {
+        put_text(text, part)?;
     }
     Ok(())
 }
@@ -33,14 +33,13 @@ fn repeated(
     alloc: Global,
     front: &str,
     count: &str,
-    byte: &str,
+    part: &str,
     back: &str,
 ) -> Result<Bytes, Fail> {
-    let mut text = text_of(alloc, front)?;
-    let byte = text_of(alloc, byte)?;
-    let byte = *byte.as_slice().first().ok_or("no byte")?;
-    put_copies(&mut text, count.parse::<u32>()?, byte)?;
-    text.extend_from_slice(text_of(alloc, back)?.as_slice())?;
+    let mut text = Bytes::new(alloc);
+    put_text(&mut text, front)?;
+    put_copies(&mut text, count, part)?;
+    put_text(&mut text, back)?;
     Ok(text)
 }
 
@@ -50,10 +49,10 @@ fn is_answered(alloc: Global, p: &Preset, row: &str) -> Result<bool, Fail> {
     let count = fields.next().ok_or("no count")?;
     let byte = fields.next().ok_or("no byte")?;
     let back = fields.next().ok_or("no back")?;
-    let want = text_of(alloc, fields.next().ok_or("no answer")?)?;
+    let want = fields.next().ok_or("no answer")?;
     let text = repeated(alloc, front, count, byte, back)?;
     let found = answer(alloc, p, text.as_slice())?;
-    Ok(found.as_slice() == want.as_slice())
+    Ok(is_text(found.as_slice(), want))
 }
 
 #[test]

@@ -1,5 +1,6 @@
-use crate::answer::{answer, text_of};
+use crate::answer::{answer, is_text, text_of};
 use heco_nums::Preset;
+use std::alloc::Global;
 use std::test::Fail;
 
 // Texts of one x and two y below 257, with $ for LF, ^ for CR and ~ for a tab, and what reading answers: the values as
@@ -47,15 +48,19 @@ y = 1 2$bad => InputText 2
 x = 257$bad => InputValue 1
 bad$x = 257 => InputText 1";
 
+// Whether reading the text answers what the row says.
+fn is_answered(alloc: Global, p: &Preset, text: &str, want: &str) -> Result<bool, Fail> {
+    let text = text_of(alloc, text)?;
+    let found = answer(alloc, p, text.as_slice())?;
+    Ok(is_text(found.as_slice(), want))
+}
+
 #[test]
 fn each_text_has_its_values_or_its_refusal(rt: HostRuntime) -> Result<(), Fail> {
     let p8 = Preset::by_id(1).ok_or("no preset")?;
     for row in ROWS.lines() {
         let (text, want) = row.split_once(" => ").ok_or("no answer")?;
-        let text = text_of(rt.alloc(), text)?;
-        let want = text_of(rt.alloc(), want)?;
-        let found = answer(rt.alloc(), &p8, text.as_slice())?;
-        assert!(rt; found.as_slice() == want.as_slice(), "{row}");
+        assert!(rt; is_answered(rt.alloc(), &p8, text, want)?, "{row}");
     }
     Ok(())
 }
