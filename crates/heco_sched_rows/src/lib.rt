@@ -1,7 +1,6 @@
 //! Boards: which events are legal, why others are refused, and what pickers answer.
 #![tactic(auto)]
 
-#[cfg(test)]
 mod events;
 #[cfg(test)]
 mod picked;
@@ -9,3 +8,5 @@ mod picked;
 mod pickers;
 #[cfg(test)]
 mod refused;
+
+pub use events::{circuit_of, event_of};
