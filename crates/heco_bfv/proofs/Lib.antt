@@ -1,10 +1,8 @@
 pub mod Constants
 pub mod EncryptSteps
-pub mod FilledSums
 pub mod MessageSlots
 pub mod Numbers
 pub mod PhaseSteps
-pub mod Picks
 pub mod RoundTrip
 pub mod Seen
 pub mod Shapes

@@ -19,7 +19,7 @@ pub struct Gates {
     ghost constant_long: { length constant ≡ preset.n },
     ghost turned_long: { length turned ≡ preset.n },
     ghost one_preset: { tensor.preset ≡ preset },
-    ghost room_preset: { room.preset ≡ preset },
+    ghost room_preset: { room ≡ preset },
 }
 
 impl Gates {

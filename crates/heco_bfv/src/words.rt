@@ -1,19 +1,18 @@
-ghost use Rattle.std.specs.Prelude.{◌≡◌, ◌<◌, ◌^◌, List as Seq, IfOk, EachIndex, length, slice_index};
-ghost use lib.IntN.{ℤ, pos};
-ghost use Rattle.heco_ring.specs.Remainders.{reduced, Same};
-ghost use Rattle.heco_ring.specs.Ring.{wholes, plus, scale, times};
-ghost use Rattle.heco_bfv.specs.Sums.{HasRoom, AreSums};
+ghost use Rattle.std.specs.Prelude.{◌≡◌, ◌≤◌, ◌^◌, List as Seq, IfOk, length};
+ghost use lib.IntN.{ℤ};
+ghost use Rattle.heco_ring.specs.Remainders.{reduced};
+ghost use Rattle.heco_ring.specs.Ring.{wholes, plus};
+ghost use Rattle.heco_transform.specs.Halves.{AreSums, SumsFit};
 
-use crate::kernel;
-use crate::sums::Sums;
 use heco_nums::{Memory, Preset};
 use heco_poly::Poly;
+use heco_transform::{HalfSums, Transform};
 use std::alloc::Global;
 use std::marker::Model;
 
 const MASK: u64 = (1 << 58) - 1;
 
-/// Words in which a sum grows, and wraps at 2^64: contracts see their list.
+/// Room for the words of a polynomial: contracts see their list.
 #[derive(Debug, Drop)]
 pub struct Words {
     places: Vec<u64>,
@@ -45,44 +44,29 @@ impl Words {
         self.places.as_mut_slice().copy_from_slice(a.as_slice());
     }
 
-    pub fn as_slice(&self) -> &[u64]
-        ensures { result.now ≡ self.now }
-    {
-        self.places.as_slice()
-    }
-
-    /// Becomes a once + b other modulo 2^58.
-    pub fn mix(&mut self, once: &Poly, a: u64, other: &Poly, b: u64)
-        requires once { length once.now ≡ length self.old }
-        requires other { length other.now ≡ length self.old }
-        ensures value { let n = length self.old in Same (2 ^ 58) n (wholes self.new) (plus n (scale n (pos a) (wholes once.now)) (scale n (pos b) (wholes other.now))) }
+    /// Gains the polynomial of the sums, modulo 2^58. The other two are room.
+    pub fn add_sums(
+        &mut self,
+        transform: &Transform,
+        sums: &HalfSums,
+        low: &mut Words,
+        high: &mut Words,
+    )
+        requires sums { SumsFit transform.now.depth sums.now }
+        requires few { sums.now.low.count ≤ 1000 }
+        requires long { length self.old ≡ 2 ^ transform.now.depth }
+        requires low { length low.old ≡ 2 ^ transform.now.depth }
+        requires high { length high.old ≡ 2 ^ transform.now.depth }
+        ensures value { let n = 2 ^ transform.now.depth in (S : Seq ℤ) → AreSums transform.now.depth S sums.now → self.new ≡ reduced (2 ^ 58) n (plus n (wholes self.old) S) }
         ensures long { length self.new ≡ length self.old }
+        ensures low_long { length low.new ≡ length low.old }
+        ensures high_long { length high.new ≡ length high.old }
     {
-        kernel::mix(
+        transform.add_sums_into(
+            sums,
+            low.places.as_mut_slice(),
+            high.places.as_mut_slice(),
             self.places.as_mut_slice(),
-            once.as_slice(),
-            a,
-            other.as_slice(),
-            b,
-        );
-    }
-
-    /// Gains the product of d and K and that of e and L modulo 2^58, by the sums of K and L. The places of d and e are
-    /// below 4.
-    pub fn add_products(&mut self, d: &Poly, e: &Poly, sums: &Sums)
-        requires d { length d.now ≡ length self.old }
-        requires e { length e.now ≡ length self.old }
-        requires d_digits { EachIndex d.now (λ k. slice_index d.now k < 4) }
-        requires e_digits { EachIndex e.now (λ k. slice_index e.now k < 4) }
-        requires sums { HasRoom (length self.old) sums.now }
-        ensures value { let n = length self.old in (K L : Seq ℤ) → AreSums n K L sums.now → Same (2 ^ 58) n (wholes self.new) (plus n (wholes self.old) (plus n (times n (wholes d.now) K) (times n (wholes e.now) L))) }
-        ensures long { length self.new ≡ length self.old }
-    {
-        kernel::add_picked(
-            self.places.as_mut_slice(),
-            d.as_slice(),
-            e.as_slice(),
-            sums.as_slice(),
         );
     }
 

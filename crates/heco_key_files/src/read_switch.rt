@@ -11,6 +11,7 @@ use heco_keys::{SwitchKey, poly_of};
 use heco_lists::words_at;
 use heco_nums::{List, Preset};
 use heco_poly::Poly;
+use heco_transform::Transform;
 use std::alloc::Global;
 
 fn list_at<'a>(alloc: Global, p: &Preset, bytes: &'a [u8]) -> Result<(List<u64>, &'a [u8]), Fault>
@@ -61,12 +62,19 @@ fn pairs_at<'a>(
     Ok((pairs, rest))
 }
 
+/// A switch key, with its images.
 #[tactic(auto, unfolding(crate::specs::KeyFiles::switch_key))]
-fn switch_at<'a>(alloc: Global, p: &Preset, bytes: &'a [u8]) -> Result<(SwitchKey, &'a [u8]), Fault>
+fn switch_at<'a>(
+    alloc: Global,
+    p: &Preset,
+    transform: &Transform,
+    bytes: &'a [u8],
+) -> Result<(SwitchKey, &'a [u8]), Fault>
     ensures { Gives (λ x. (x.0.rows, x.1.now)) result (reading (switch_key p.now.n 0) bytes.now) }
 {
     let (pairs, rest) = pairs_at(alloc, p, bytes)?;
-    Ok((SwitchKey::of(pairs), rest))
+    let key = SwitchKey::of(pairs).imaged(alloc, transform)?;
+    Ok((key, rest))
 }
 
 /// So many switch keys.
@@ -79,10 +87,11 @@ pub fn switches_at<'a>(
     ensures read { Gives (λ x. (map (λ k. k.rows) x.0, x.1.now)) result (reading (many (switch_key p.now.n) stays count 0) bytes.now) }
     ensures count { IfOk result (λ x. length x.0 ≡ count) }
 {
+    let transform = Transform::of_preset(alloc, p)?;
     let mut keys = List::new(alloc);
     let mut rest = bytes;
     for _ in 0..count {
-        let (key, after) = switch_at(alloc, p, rest)?;
+        let (key, after) = switch_at(alloc, p, &transform, rest)?;
         keys.push(key)?;
         rest = after;
     }

@@ -1,3 +1,4 @@
 pub mod KeySteps
 pub mod MadeRows
+pub mod PushedImages
 pub mod ReadItems

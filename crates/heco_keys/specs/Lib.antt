@@ -1,2 +1,3 @@
 pub mod Amounts
 pub mod Made
+pub mod RowImages

@@ -7,6 +7,7 @@ mod laws;
 mod make_switch;
 mod making;
 mod masked;
+mod row_images;
 mod secret;
 mod sources;
 mod switch_key;

@@ -12,6 +12,7 @@ use crate::switch_key::SwitchKey;
 use heco_material::{SwitchRow, SwitchWords};
 use heco_nums::{List, Memory, Preset};
 use heco_poly::Poly;
+use heco_transform::Transform;
 use std::alloc::Global;
 
 /// The pair of a row, where source is 4^i s'.
@@ -34,10 +35,11 @@ fn pair(
     Ok((first, a))
 }
 
-/// The switch key of that kind to the secret s, from its words.
+/// The switch key of that kind to the secret s, from its words, with its images.
 pub fn make_switch(
     alloc: Global,
     p: &Preset,
+    transform: &Transform,
     s: &[i8],
     kind: Option<u16>,
     words: &SwitchWords,
@@ -52,5 +54,5 @@ pub fn make_switch(
         pairs.push(pair(alloc, p, s, words.rows.get(i as usize), &source)?)?;
         source.scale_in(4);
     }
-    Ok(SwitchKey::of(pairs))
+    SwitchKey::of(pairs).imaged(alloc, transform)
 }

@@ -12,6 +12,7 @@ use crate::secret::Secret;
 use crate::switch_key::SwitchKey;
 use heco_material::KeyWords;
 use heco_nums::{KeyNeeds, List, Memory};
+use heco_transform::Transform;
 use std::alloc::Global;
 
 /// What switch key j is for: `None` to relinearise, else the amount of its turn.
@@ -32,10 +33,13 @@ fn make_switches(alloc: Global, k: &KeyWords) -> Result<List<SwitchKey>, Memory>
     ensures count { IfOk result (λ keys. length keys ≡ key_count k.now.needs) }
     ensures rows { IfOk result (λ keys. map (λ key. key.rows) keys ≡ all_rows k.now.preset.n k.now.s k.now.needs.relin k.now.needs.turns k.now.switch) }
 {
+    let transform = Transform::of_preset(alloc, &k.preset)?;
     let mut keys = List::new(alloc);
     for j in 0..k.switch.len() {
         let kind = purpose(&k.needs, j);
-        keys.push(make_switch(alloc, &k.preset, k.s.as_slice(), kind, k.switch.get(j))?)?;
+        let words = k.switch.get(j);
+        let key = make_switch(alloc, &k.preset, &transform, k.s.as_slice(), kind, words)?;
+        keys.push(key)?;
     }
     Ok(keys)
 }

@@ -10,7 +10,7 @@ use Rattle.heco_key_files.proofs.read_switch.switches_at.Goals as goal
 
 pub returns-in_err-key-clause-read : goal.returns-in_err-key-clause-read
 returns-in_err-key-clause-read c =
-    let p = err_from_is_err_and c.from_residual.result c.from_residual.ensures.1 in
+    let p = err_from_is_err_and c.from_residual-in_err-key.result c.from_residual-in_err-key.ensures.1 in
     rw (p.1, p.2) (fails c.in_err-key.field-0.0 (switch_key c.args.p.now.n) stays (map (λ k. k.rows) c.loop.keys) c.args.count c.loop.counter 0 c.loop.rest.now (reading (many (switch_key c.args.p.now.n) stays c.args.count 0) c.args.bytes.now) c.loop-test.true c.in_err-key.ensures c.loop.invariant.read)
 
 pub returns-clause-read : goal.returns-clause-read

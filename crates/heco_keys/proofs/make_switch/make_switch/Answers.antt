@@ -1,12 +1,13 @@
-use Rattle.std.proofs.Common.{◌≡◌, ℕ, ◌+◌, ◌^◌, List, length, arith, sym, ap, ◌∙◌}
+use Rattle.std.proofs.Common.{◌≡◌, ℕ, List, length, arith, sym, ap, ◌∙◌}
 use Rattle.std.specs.Prelude.{ℤ}
 use lib.ListN.{get_or}
 use Rattle.std.proofs.lemmas.Option.{get_or_from_slice_get}
-use Rattle.heco_nums.specs.declared.preset.Preset.{Preset}
+use Rattle.std.proofs.lemmas.Result.{IfOk-weaker}
 use Rattle.heco_draw.specs.Words.{listed}
 use Rattle.heco_draw.proofs.Drawn.{listed_none, length-listed}
 use Rattle.heco_material.specs.declared.words.SwitchRow.{SwitchRow}
 use Rattle.heco_material.specs.KeyLists.{IsRow}
+use Rattle.heco_keys.specs.declared.switch_key.SwitchKey.{SwitchKey}
 use Rattle.heco_keys.specs.Made.{source_of, pair_of, no_row, switch_rows}
 use Rattle.heco_keys.proofs.KeySteps.{source_begins, source_next}
 use Rattle.heco_keys.proofs.ReadItems.{read_is, pair_is, listed_push}
@@ -65,5 +66,8 @@ pub returns : goal.returns
 unfolding switch_rows
 returns c =
     let n = c.args.p.now.n in
+    let t = source_of n c.args.s.now c.args.kind in
+    let rows = c.args.words.now.rows in
     let e : c.loop-i.i ≡ 29 = omega arith in
-    c.of.ensures ∙ c.loop-i.invariant.pairs ∙ ap (λ m. listed m (item n c.args.s.now (source_of n c.args.s.now c.args.kind) c.args.words.now.rows)) e
+    let all : c.of.result.rows ≡ listed 29 (item n c.args.s.now t rows) = c.of.ensures ∙ c.loop-i.invariant.pairs ∙ ap (λ m. listed m (item n c.args.s.now t rows)) e in
+    IfOk-weaker c.imaged.result (λ (k : SwitchKey). k.rows ≡ c.of.result.rows) (λ (k : SwitchKey). k.rows ≡ listed 29 (item n c.args.s.now t rows)) (λ k made. made ∙ all) c.imaged.ensures

@@ -1,4 +1,4 @@
-use Rattle.std.proofs.Common.{◌≡◌, ℕ, ◌+◌, List, [], ◌∷◌, Option, map, length, arith, sym, ap, ◌∙◌}
+use Rattle.std.proofs.Common.{◌≡◌, ℕ, List, [], ◌∷◌, Option, map, length, arith, sym, ap, ◌∙◌}
 use Rattle.std.specs.Prelude.{ℤ}
 use lib.ListN.{get_or}
 use Rattle.std.proofs.lemmas.List.{length-append}
@@ -24,7 +24,7 @@ loop-j-init c =
 pub make_switch-requires-clause-words : goal.make_switch-requires-clause-words
 make_switch-requires-clause-words c =
     let k = c.args.k.now in
-    read_is (IsSwitch k.preset.n k.preset.b) k.switch c.loop-j.j c.get.result.now c.requires.switch c.get.ensures
+    read_is (IsSwitch k.preset.n k.preset.b) k.switch c.loop-j.j c.get-words.result.now c.requires.switch c.get-words.ensures
 
 -- the rows of one key, where what was passed is what the material has there
 made : (n : ℕ) (s s2 : List ℤ) (needs : KeyNeeds) (switch : List SwitchWords) (j : ℕ) (kind : Option ℕ) (w : SwitchWords) (rows : List (List ℕ × List ℕ)) → rows ≡ switch_rows n s2 (source_of n s2 kind) w.rows → s2 ≡ s → kind ≡ purpose needs.relin needs.turns j → get_or switch j no_rows ≡ w
@@ -36,10 +36,10 @@ pub loop-j-preserved : goal.loop-j-preserved
 loop-j-preserved c =
     let k = c.args.k.now in
     let j = c.loop-j.j in
-    let key = c.in_ok-make_switch.field-0 in
-    let w = c.get.result.now in
-    let here : get_or k.switch j no_rows ≡ w = get_or_from_slice_get k.switch j w no_rows c.get.ensures in
-    let is = made k.preset.n k.s c.as_slice.result.now k.needs k.switch j c.purpose-kind.result w key.rows c.in_ok-make_switch.ensures c.as_slice.ensures c.purpose-kind.ensures here in
+    let key = c.in_ok-key.key in
+    let w = c.get-words.result.now in
+    let here : get_or k.switch j no_rows ≡ w = get_or_from_slice_get k.switch j w no_rows c.get-words.ensures in
+    let is = made k.preset.n k.s c.as_slice.result.now k.needs k.switch j c.purpose-kind.result w key.rows c.in_ok-key.ensures c.as_slice.ensures c.purpose-kind.ensures here in
     record {
       rows = listed_push_seen (λ (x : SwitchKey). x.rows) (item k.preset.n k.s k.needs k.switch) j c.loop-j.keys c.push.new.self key c.loop-j.invariant.rows is c.in_ok-push.ensures.ok;
       long = ap length c.in_ok-push.ensures.ok ∙ length-append c.loop-j.keys (key ∷ []) ∙ omega (arith, c.loop-j.invariant.long);
