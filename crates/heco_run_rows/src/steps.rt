@@ -1,4 +1,4 @@
-use crate::given::given_by;
+use crate::given::{Given, given_by};
 use crate::works::{answer, opened};
 use heco_run::Work;
 use std::alloc::Global;
@@ -36,10 +36,18 @@ fn all_hold(alloc: Global, work: &mut Work<'_>) -> Result<bool, Fail> {
     Ok(true)
 }
 
+fn holds_of(alloc: Global, g: &Given) -> Result<bool, Fail> {
+    let mut work = opened(alloc, g, 2)?;
+    all_hold(alloc, &mut work)
+}
+
+fn holds(alloc: Global) -> Result<bool, Fail> {
+    let g = given_by(alloc, "dot", "dot")?;
+    holds_of(alloc, &g)
+}
+
 #[test]
 fn a_work_answers_as_its_board(rt: HostRuntime) -> Result<(), Fail> {
-    let g = given_by(rt.alloc(), "dot", "dot")?;
-    let mut work = opened(rt.alloc(), &g, 2)?;
-    assert!(rt; all_hold(rt.alloc(), &mut work)?);
+    assert!(rt; holds(rt.alloc())?);
     Ok(())
 }
