@@ -1,26 +1,42 @@
-use crate::answer::{Answer, answer_to};
-use heco_lex::Rule;
-use heco_nums::Bytes;
+use crate::answer::answer_to;
+use std::alloc::Global;
 use std::test::Fail;
+
+// What stands behind 255 parameters, and what typing answers.
+const ROWS: &str = "in b){}|Typed
+in b,in c){}|Length 1:1809
+in b,in c[0]){}|Length 1:1809
+in b,in c[9],in c){}|Length 1:1809
+in b,in b){}|Redeclared 1:1809
+in b,out b[0]){}|Redeclared 1:1810";
+
+// A parameter whose name is q and two letters.
+fn put_parameter(text: &mut String, number: u8) -> Result<(), Fail> {
+    text.push_str("in q")?;
+    text.push(char::from(b'a' + number / 16))?;
+    text.push(char::from(b'a' + number % 16))?;
+    Ok(text.push(',')?)
+}
+
+fn source_of(alloc: Global, last: &str) -> Result<String, Fail> {
+    let mut text = String::from_str(alloc, "params p8;fn f(")?;
+    for number in 0..255u8 {
+        put_parameter(&mut text, number)?;
+    }
+    text.push_str(last)?;
+    Ok(text)
+}
+
+fn holds(alloc: Global, row: &str) -> Result<bool, Fail> {
+    let (last, wanted) = row.split_once('|').ok_or("no answer")?;
+    let text = source_of(alloc, last)?;
+    Ok(answer_to(alloc, text.as_str())?.as_str() == wanted)
+}
 
 #[test]
 fn the_257th_parameter(rt: HostRuntime) -> Result<(), Fail> {
-    let rows = [
-        ("in b){}", Answer::Typed),
-        ("in b,in c){}", Answer::At(Rule::Length, 1, 1809)),
-        ("in b,in c[0]){}", Answer::At(Rule::Length, 1, 1809)),
-        ("in b,in c[9],in c){}", Answer::At(Rule::Length, 1, 1809)),
-        ("in b,in b){}", Answer::At(Rule::Redeclared, 1, 1809)),
-        ("in b,out b[0]){}", Answer::At(Rule::Redeclared, 1, 1810)),
-    ];
-    for (last, wanted) in rows {
-        let mut text = Bytes::new(rt.alloc());
-        text.extend_from_slice(b"params p8;fn f(")?;
-        for i in 0..255u8 {
-            text.extend_from_slice(&[b'i', b'n', b' ', b'q', b'a' + i / 16, b'a' + i % 16, b','])?;
-        }
-        text.extend_from_slice(last.as_bytes())?;
-        assert_eq!(rt; answer_to(rt.alloc(), text.as_slice())?, wanted, "{last}");
+    for row in ROWS.lines() {
+        assert!(rt; holds(rt.alloc(), row)?, "{row}");
     }
     Ok(())
 }

@@ -1,54 +1,82 @@
-use crate::answer::{answer_to, typed};
+use crate::answer::{answer_to, typed, unrolled};
 use bumpalo::Bump;
-use heco_unroll::unroll;
+use heco_types::Typed;
 use std::alloc::Global;
 use std::test::Fail;
 
 // A statement of 63 steps, which makes 124 nodes.
-fn long_statement(alloc: Global) -> Result<String, Fail> {
-    let mut text = String::from_str(alloc, "y = x")?;
+fn put_statement(text: &mut String) -> Result<(), Fail> {
+    text.push_str("y = x")?;
     for _ in 0..62 {
         text.push_str("+2")?;
     }
-    text.push_str(";")?;
-    Ok(text)
+    Ok(text.push(';')?)
+}
+
+// The text that a field stands for: `@` is the statement, and `~` is LF.
+fn put_field(text: &mut String, field: &str) -> Result<(), Fail> {
+    for c in field.chars() {
+        match c {
+            '@' => put_statement(text)?,
+            '~' => text.push('\n')?,
+            _ => text.push(c)?,
+        }
+    }
+    Ok(())
 }
 
 // The loop counts 1 + 4095 * 64 steps, all but 63 of those that there may be.
 fn long_source(alloc: Global, last: &str) -> Result<String, Fail> {
-    let statement = long_statement(alloc)?;
-    Ok(format!(in alloc;
-        "params p8;\nfn f(in x, in a[7], out y) {{\nfor i in 0..4095 {{ {statement} }}\n{last}\n}}"
-    )?)
+    let mut text = String::new(alloc);
+    put_field(
+        &mut text,
+        "params p8;~fn f(in x, in a[7], out y) {~for i in 0..4095 { @ }~",
+    )?;
+    put_field(&mut text, last)?;
+    put_field(&mut text, "~}")?;
+    Ok(text)
+}
+
+// How many nodes and roots there are.
+fn counts(alloc: Global, t: &Typed) -> Result<(u32, usize), Fail> {
+    let arena = Bump::new(alloc);
+    match unrolled(alloc, t, &arena) {
+        Ok(ir) => Ok((ir.len(), ir.roots().len())),
+        Err(_) => Err("refused".into()),
+    }
+}
+
+fn typed_behind(alloc: Global, last: &str) -> Result<Typed, Fail> {
+    let text = long_source(alloc, last)?;
+    typed(alloc, text.as_str())
+}
+
+fn counts_behind(alloc: Global, last: &str) -> Result<(u32, usize), Fail> {
+    let t = typed_behind(alloc, last)?;
+    counts(alloc, &t)
 }
 
 #[test]
 fn as_many_steps_as_there_may_be(rt: HostRuntime) -> Result<(), Fail> {
-    let last = long_statement(rt.alloc())?;
-    let text = long_source(rt.alloc(), last.as_str())?;
-    let source = typed(rt.alloc(), text.as_str())?;
-    let arena = Bump::new(rt.alloc());
-    let Ok(ir) = unroll(rt.alloc(), &source, &arena) else {
-        return Err(Fail::from("refused"));
-    };
-    assert_eq!(rt; ir.len(), 8 + 4096 * 124);
-    assert_eq!(rt; ir.roots().len(), 1);
+    assert_eq!(rt; counts_behind(rt.alloc(), "@")?, (8 + 4096 * 124, 1));
     Ok(())
+}
+
+// What stands behind the loop, and what unrolling answers.
+const ROWS: &str = "y = x * a[7];|4:9: IndexRange
+y = 1; int k = 65536*65536;|4:21: PublicRange
+@~y = 1;|5:1: TooLarge";
+
+fn holds(alloc: Global, row: &str) -> Result<bool, Fail> {
+    let (last, wanted) = row.split_once('|').ok_or("no answer")?;
+    let text = long_source(alloc, last)?;
+    Ok(answer_to(alloc, text.as_str())?.as_str() == wanted)
 }
 
 #[test]
 fn rules_that_are_broken_behind_many_nodes(rt: HostRuntime) -> Result<(), Fail> {
-    let statement = long_statement(rt.alloc())?;
-    let one_more = format!(in rt.alloc(); "{statement}\ny = 1;")?;
-    let rows = [
-        ("y = x * a[7];", "4:9: IndexRange"),
-        ("y = 1; int k = 65536*65536;", "4:21: PublicRange"),
-        (one_more.as_str(), "5:1: TooLarge"),
-    ];
-    for (last, wanted) in rows {
-        let text = long_source(rt.alloc(), last)?;
-        let answer = answer_to(rt.alloc(), text.as_str())?;
-        assert_eq!(rt; answer.as_str(), wanted);
+    for row in ROWS.lines() {
+        assert!(rt; holds(rt.alloc(), row)?, "{row}");
     }
     Ok(())
 }
