@@ -3,8 +3,8 @@ use heco_sched::{Board, Event};
 use std::alloc::Global;
 use std::test::Fail;
 
-// The circuit of a file in hex.
-fn circuit_of(alloc: Global, text: &str) -> Result<Circuit, Fail> {
+/// The circuit of a file in hex.
+pub fn circuit_of(alloc: Global, text: &str) -> Result<Circuit, Fail> {
     let file = hex::decode(alloc, text)?;
     Ok(read(alloc, file.as_slice())?)
 }
