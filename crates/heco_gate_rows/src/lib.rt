@@ -10,4 +10,8 @@ mod material;
 #[cfg(test)]
 mod owner;
 #[cfg(test)]
+mod plain_switch;
+#[cfg(test)]
 mod rows;
+#[cfg(test)]
+mod switch_rows;
