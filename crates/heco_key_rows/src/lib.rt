@@ -6,4 +6,6 @@ mod constant;
 #[cfg(test)]
 mod keys;
 #[cfg(test)]
+mod plain_tensor;
+#[cfg(test)]
 mod tensor;

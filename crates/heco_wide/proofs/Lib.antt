@@ -1,3 +1,5 @@
-pub mod Grown
+pub mod Changes
+pub mod Joins
+pub mod LimbLaws
 pub mod Products
-pub mod Room
+pub mod Shifts

@@ -1,63 +1,60 @@
--- The sizes of rows and products over the integers, and rounded lists.
-use Prim.Native.Nat.{ℕ, suc, ◌+◌, ◌*◌, ◌^◌, ◌<◌, ◌≤◌}
+-- Products over the integers of centred coefficients: their sizes, and what they are rounded to.
+use Prim.Native.Nat.{ℕ, ◌*◌, ◌^◌, ◌<◌, ◌≤◌}
 use native.Mathlib.Omega.{arith}
 use mathlib.Core.Path.{◌≡◌, refl, sym, ap, ◌∙◌}
 use mathlib.Core.List.{List}
-use lib.IntN.{ℤ, pos, ◌+ℤ◌, ◌*ℤ◌, neg_ℤ, nat_abs}
+use lib.IntN.{ℤ, ◌+ℤ◌, nat_abs}
 use lib.ListN.{length, get_or}
-use Rattle.std.proofs.lemmas.Nat.{mul-le}
-use Rattle.std.proofs.lemmas.Int.{unsigned_abs-mul}
-use Rattle.heco_noise_laws.specs.Noise.{rounded, round_part}
-use Rattle.heco_ring.proofs.Integers.{lines}
-use Rattle.heco_ring.proofs.Linear.{at-plus, at-times, plus_times, times_plus}
-use Rattle.heco_ring.proofs.Pairing.{pair, table_ext, at-table}
-use Rattle.heco_ring.proofs.Reduced.{filled}
-use Rattle.heco_ring.proofs.Rows.{rows_all}
-use Rattle.heco_ring.proofs.Sizes.{shifted, sum_abs, sum_n_le, abs_add}
-use Rattle.heco_ring.specs.Remainders.{rem, reduced}
-use Rattle.heco_ring.specs.Ring.{at, sum_z, sign, times_at, table, plus, times}
-use Rattle.heco_ring.specs.Rows.{shift_at, rows_at}
-use Rattle.heco_wide.specs.Wide.{FitsAll}
-use Rattle.std.proofs.lemmas.List.FromFn.{fill_by_all}
+use Rattle.std.specs.Prelude.{All}
+use Rattle.std.proofs.lemmas.List.Elements.{All-get_or}
 use Rattle.heco_nums.specs.Arithmetic.{centre_q}
+use Rattle.heco_noise_laws.specs.Noise.{rounded, round_part}
+use Rattle.heco_ring.proofs.Linear.{at-plus, at-times}
+use Rattle.heco_ring.proofs.Pairing.{table_ext, at-table}
+use Rattle.heco_ring.proofs.Reduced.{filled}
+use Rattle.heco_ring.proofs.Sizes.{abs_add, times_size, weight-le}
+use Rattle.heco_ring.specs.Remainders.{rem, reduced}
+use Rattle.heco_ring.specs.Ring.{at, times_at, table, plus, times}
+use Rattle.heco_ring.specs.Sizes.{weight}
+use Rattle.heco_scheme.proofs.ProductNoise.{centre_small}
 use Rattle.heco_scheme.specs.Rounding.{centred, rounded_all}
+use Rattle.heco_wide.specs.Limbs.{HasLimbs, HasLimbsOf}
+use Rattle.heco_wide.specs.Wide.{int_at, FitsAll}
+use Rattle.heco_wide.specs.declared.limbs.LimbImages.{LimbImages}
 
-at_small : (n C : ℕ) (a : List ℤ) → length a ≡ n → FitsAll C a → (i : ℕ) → i < n → nat_abs (at a i) ≤ C
-unfolding at
-at_small n C a l h i il = h i (omega arith)
+pub some_limbs : (depth : ℕ) (a : List ℤ) (i : LimbImages) → HasLimbsOf depth a i → HasLimbs depth i
+some_limbs depth a i h = record { limbs = h.limbs; images = h.images }
 
--- one row at one place is one product
-row_size : (n i k A B : ℕ) (a b : List ℤ) → nat_abs (at a i) ≤ A → ((j : ℕ) → j < n → nat_abs (at b j) ≤ B) → i < n → k < n → nat_abs (at a i *ℤ shift_at n b i k) ≤ A * B
-unfolding shift_at pair
-row_size n i k A B a b ha hb il kl =
-    rw (unsigned_abs-mul (at a i) (sum_z n (λ j. at b j *ℤ sign n (i + j) k))) (mul-le (nat_abs (at a i)) (nat_abs (sum_z n (λ j. at b j *ℤ sign n (i + j) k))) A B ha (shifted n b B i k hb il kl))
+-- ---- sizes
+centred_small : (n k : ℕ) (c : List ℕ) → length c ≡ n → All (λ x. x < 2 ^ 58) c → k < n → nat_abs (at (centred n c) k) ≤ 2 ^ 57
+unfolding centred
+centred_small n k c e b l =
+    let inside : k < length c = omega arith in
+    rw (at-table n (λ k. centre_q (get_or c k 0)) k l) (centre_small (get_or c k 0) (All-get_or (λ x. x < 2 ^ 58) c k 0 inside b))
 
-pub rows_size : (n i k A B : ℕ) (a b : List ℤ) → length a ≡ n → length b ≡ n → FitsAll A a → FitsAll B b → i ≤ n → k < n → nat_abs (rows_at n a b i k) ≤ i * (A * B)
-unfolding rows_at
-rows_size n i k A B a b la lb ha hb il kl = omega (arith, sum_abs i (λ j. at a j *ℤ shift_at n b j k) (λ j. A * B) (λ j jl. row_size n j k A B a b (at_small n A a la ha j (omega arith)) (at_small n B b lb hb) (omega arith) kl), sum_n_le i (A * B) (λ j. A * B) (λ j jl. omega arith))
+-- a list of n words below q
+pub record Words (n : ℕ) (c : List ℕ) : Type 0 where
+  pub long : length c ≡ n
+  pub below : All (λ x. x < 2 ^ 58) c
 
--- what has come together still has room
-pub room_left : (n i k : ℕ) (a b : List ℤ) (w v : ℤ) → length a ≡ n → length b ≡ n → FitsAll (2 ^ 58) a → FitsAll (2 ^ 58) b → i ≤ n → n ≤ 1024 → k < n → nat_abs w ≤ 2 ^ 125 → v ≡ w +ℤ rows_at n a b i k → nat_abs v ≤ 3 * 2 ^ 125
-room_left n i k a b w v la lb ha hb il ns kl hw e = rw e (omega (arith, abs_add w (rows_at n a b i k), rows_size n i k (2 ^ 58) (2 ^ 58) a b la lb ha hb il kl))
+product_size : (n k : ℕ) (c d : List ℕ) → n ≤ 1024 → Words n c → Words n d → k < n → nat_abs (times_at n (centred n c) (centred n d) k) ≤ 2 ^ 124
+product_size n k c d h p q l =
+    let w : weight n (centred n c) ≤ n * 2 ^ 57 = weight-le n (2 ^ 57) (centred n c) (λ j jl. centred_small n j c p.long p.below jl) in
+    let t : nat_abs (times_at n (centred n c) (centred n d) k) ≤ weight n (centred n c) * 2 ^ 57 = times_size n (centred n c) (centred n d) (2 ^ 57) k (λ j jl. centred_small n j d q.long q.below jl) l in
+    omega (arith, w, t)
 
-pub rows_next : (n i k : ℕ) (a b : List ℤ) (w v x : ℤ) → v ≡ w +ℤ rows_at n a b i k → x ≡ v +ℤ at a i *ℤ shift_at n b i k → x ≡ w +ℤ rows_at n a b (i + 1) k
-unfolding rows_at sum_z
-rows_next n i k a b w v x e f = let s : i + 1 ≡ suc i = omega arith in rw s (omega (arith, lines, e, f))
+pub product_fits : (n : ℕ) (c d : List ℕ) (x : List ℤ) → n ≤ 1024 → Words n c → Words n d → length x ≡ n →
+    ((k : ℕ) → k < n → int_at x k ≡ times_at n (centred n c) (centred n d) k) → FitsAll (2 ^ 125) x
+product_fits n c d x h p q e v = λ k l. let kn : k < n = omega arith in rw (v k kn) (omega (arith, product_size n k c d h p q kn))
 
-pub rows_first : (n k : ℕ) (a b : List ℤ) (w : ℤ) → w ≡ w +ℤ rows_at n a b 0 k
-unfolding rows_at sum_z
-rows_first n k a b w = omega (arith, lines)
+pub sum_fits : (n : ℕ) (c d e f : List ℕ) (x : List ℤ) → n ≤ 1024 → Words n c → Words n d → Words n e → Words n f → length x ≡ n →
+    ((k : ℕ) → k < n → int_at x k ≡ times_at n (centred n c) (centred n d) k +ℤ times_at n (centred n e) (centred n f) k) → FitsAll (2 ^ 125) x
+sum_fits n c d e f x h p q r s l v = λ k kl.
+    let kn : k < n = omega arith in
+    rw (v k kn) (omega (arith, abs_add (times_at n (centred n c) (centred n d) k) (times_at n (centred n e) (centred n f) k), product_size n k c d h p q kn, product_size n k e f h r s kn))
 
-pub product_size : (n k : ℕ) (a b : List ℤ) → length a ≡ n → length b ≡ n → FitsAll (2 ^ 57) a → FitsAll (2 ^ 57) b → n ≤ 1024 → k < n → nat_abs (times_at n a b k) ≤ 2 ^ 124
-product_size n k a b la lb ha hb ns kl = rw (← (rows_all n k a b)) (omega (arith, rows_size n n k (2 ^ 57) (2 ^ 57) a b la lb ha hb (omega arith) kl))
-
-pub sum_size : (x y v : ℤ) → v ≡ x +ℤ y → nat_abs x ≤ 2 ^ 124 → nat_abs y ≤ 2 ^ 124 → nat_abs v ≤ 2 ^ 125
-sum_size x y v e h g = rw e (omega (arith, abs_add x y))
-
-pub from_zero : (x y v : ℤ) → x ≡ pos 0 → v ≡ x +ℤ y → v ≡ y
-from_zero x y v e f = omega (arith, lines, e, f)
-
-pub rounded_ext : (n t : ℕ) (x y : List ℤ) → ((k : ℕ) → k < n → at x k ≡ at y k) → rounded_all n t x ≡ rounded_all n t y
+-- ---- rounding
+rounded_ext : (n t : ℕ) (x y : List ℤ) → ((k : ℕ) → k < n → at x k ≡ at y k) → rounded_all n t x ≡ rounded_all n t y
 unfolding rounded_all round_part
 rounded_ext n t x y h = ap (reduced (2 ^ 58) n) (table_ext n (λ k. rounded (2 ^ 58) t (at x k)) (λ k. rounded (2 ^ 58) t (at y k)) (λ k l. ap (rounded (2 ^ 58) t) (h k l)))
 
@@ -65,39 +62,11 @@ pub rounded_filled : (n t : ℕ) (x : List ℤ) (out : List ℕ) → length out 
 unfolding rounded_all round_part
 rounded_filled n t x out l h = filled (2 ^ 58) n (table n (λ k. rounded (2 ^ 58) t (at x k))) out l (λ k kl. h k kl ∙ ap (rem (2 ^ 58)) (sym (at-table n (λ k. rounded (2 ^ 58) t (at x k)) k kl)))
 
-pub centred_filled : (n : ℕ) (c : List ℕ) (out : List ℤ) → length out ≡ n → ((k : ℕ) → k < n → get_or out k (pos 0) ≡ centre_q (get_or c k 0)) → out ≡ centred n c
-unfolding centred table
-centred_filled n c out l h = fill_by_all (λ k. centre_q (get_or c k 0)) out n (pos 0) l (λ k kl. h k (omega arith))
+pub rounded_product : (n t : ℕ) (a b x : List ℤ) (out : List ℕ) → length x ≡ n → out ≡ rounded_all (length x) t x → ((k : ℕ) → k < n → int_at x k ≡ times_at n a b k) → out ≡ rounded_all n t (times n a b)
+unfolding at
+rounded_product n t a b x out e o v = rw e at o ∙ rounded_ext n t x (times n a b) (λ k l. v k l ∙ sym (at-times n a b k l))
 
--- a smaller bound is a bound
-pub fits_more : (B C : ℕ) (a : List ℤ) → B ≤ C → FitsAll B a → FitsAll C a
-fits_more B C a h f = λ k l. omega (arith, f k l)
-
-pub plus_filled : (n : ℕ) (a b out : List ℤ) → length out ≡ n → ((k : ℕ) → k < n → get_or out k (pos 0) ≡ get_or a k (pos 0) +ℤ get_or b k (pos 0)) → out ≡ plus n a b
-unfolding plus table at
-plus_filled n a b out l h = fill_by_all (λ k. get_or a k (pos 0) +ℤ get_or b k (pos 0)) out n (pos 0) l (λ k kl. h k (omega arith))
-
--- ---- one product for two
-both_at : (n k : ℕ) (a b c d : List ℤ) → k < n → times_at n (plus n a c) (plus n b d) k ≡ times_at n a b k +ℤ times_at n a d k +ℤ (times_at n c b k +ℤ times_at n c d k)
-both_at n k a b c d h = rw (
-  ← (at-times n (plus n a c) (plus n b d) k h),
-  ← (at-times n a b k h),
-  ← (at-times n a d k h),
-  ← (at-times n c b k h),
-  ← (at-times n c d k h),
-  plus_times n a c (plus n b d),
-  times_plus n a b d,
-  times_plus n c b d,
-  at-plus n (plus n (times n a b) (times n a d)) (plus n (times n c b) (times n c d)) k h,
-  at-plus n (times n a b) (times n a d) k h,
-  at-plus n (times n c b) (times n c d) k h,
-) refl
-
-pub middle_at : (n k : ℕ) (a b c d A B : List ℤ) (x y w v : ℤ) → k < n → x ≡ times_at n a b k → y ≡ times_at n c d k → w ≡ neg_ℤ (x +ℤ y) → A ≡ plus n a c → B ≡ plus n b d → v ≡ w +ℤ times_at n A B k →
-    v ≡ times_at n a d k +ℤ times_at n c b k
-middle_at n k a b c d A B x y w v h ex ey ew ea eb ev =
-    let t : times_at n A B k ≡ times_at n a b k +ℤ times_at n a d k +ℤ (times_at n c b k +ℤ times_at n c d k) = rw (ea, eb) (both_at n k a b c d h) in
-    omega (arith, lines, ex, ey, ew, ev, t)
-
-pub at-middle : (n k : ℕ) (a b c d : List ℤ) (v : ℤ) → k < n → v ≡ times_at n a d k +ℤ times_at n c b k → v ≡ at (plus n (times n a d) (times n c b)) k
-at-middle n k a b c d v h e = rw (at-plus n (times n a d) (times n c b) k h, at-times n a d k h, at-times n c b k h) e
+pub rounded_sum : (n t : ℕ) (a b c d x : List ℤ) (out : List ℕ) → length x ≡ n → out ≡ rounded_all (length x) t x → ((k : ℕ) → k < n → int_at x k ≡ times_at n a b k +ℤ times_at n c d k) →
+    out ≡ rounded_all n t (plus n (times n a b) (times n c d))
+unfolding at
+rounded_sum n t a b c d x out e o v = rw e at o ∙ rounded_ext n t x (plus n (times n a b) (times n c d)) (λ k l. v k l ∙ sym (rw (at-plus n (times n a b) (times n c d) k l, at-times n a b k l, at-times n c d k l) refl))

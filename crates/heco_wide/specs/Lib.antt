@@ -1,1 +1,2 @@
+pub mod Limbs
 pub mod Wide

@@ -1,12 +1,13 @@
 //! The product of two ciphertexts over the integers, times t / q and rounded. No call but `open` takes memory.
 #![tactic(auto)]
 
-mod centre;
+mod limbs;
 mod part;
 mod product;
+mod room;
 mod round;
-mod row;
-mod sums;
+mod shift;
 mod tensor;
+mod wide;
 
 pub use tensor::Tensor;

@@ -1,61 +1,46 @@
-ghost use Rattle.std.specs.Prelude.{◌≡◌, ◌≤◌, ◌^◌, EachIndex, length};
-ghost use Rattle.heco_ring.specs.Ring.{plus, times, times_at};
-ghost use Rattle.heco_scheme.specs.Rounding.{rounded_all};
-ghost use Rattle.heco_wide.specs.Wide.{int_at, FitsAll};
+ghost use Rattle.std.specs.Prelude.{◌≡◌, ◌+◌, ◌<◌, ◌≤◌, ◌^◌, ℕ, List};
+ghost use lib.IntN.{ℤ};
+ghost use Rattle.heco_ring.specs.Ring.{plus, times};
+ghost use Rattle.heco_transform.specs.Images.{ImageFits, SumFits, IsImageOf, IsSumOf};
+ghost use Rattle.heco_wide.specs.Limbs.{Limbs, ImagesFit, AreImages, limb_part};
 
-use crate::{product, round, sums};
-use heco_poly::Poly;
+use crate::limbs::LimbImages;
+use heco_transform::{Image, ImageSum, Transform};
 
-/// The product of a and b; times t / q and rounded.
-pub fn outer(t: u32, a: &[i64], b: &[i64], wide: &mut [i128], out: &mut Poly)
-    requires t_small { t ≤ 65537 }
-    requires b_len { length b.now ≡ length a.now }
-    requires wide_len { length wide.old ≡ length a.now }
-    requires out_len { length out.old ≡ length a.now }
-    requires short { length a.now ≤ 1024 }
-    requires a_small { FitsAll (2 ^ 57) a.now }
-    requires b_small { FitsAll (2 ^ 57) b.now }
-    ensures product { EachIndex wide.new (λ k. int_at wide.new k ≡ times_at (length a.now) a.now b.now k) }
-    ensures value { let n = length a.now in out.new ≡ rounded_all n t (times n a.now b.now) }
-    ensures long { length out.new ≡ length a.now }
+/// A sum gains the products of a and d and of b and c.
+fn add_crosswise(f: &Transform, sum: &mut ImageSum, a: &Image, b: &Image, c: &Image, d: &Image)
+    requires sum { SumFits f.now.depth sum.old }
+    requires few { sum.old.count < 900 }
+    requires a { ImageFits f.now.depth a.now }
+    requires b { ImageFits f.now.depth b.now }
+    requires c { ImageFits f.now.depth c.now }
+    requires d { ImageFits f.now.depth d.now }
+    ensures fits { SumFits f.now.depth sum.new }
+    ensures two_more { sum.new.count ≡ sum.old.count + 2 }
+    ensures sum { let n = 2 ^ f.now.depth in (s x y z w : List ℤ) → IsSumOf f.now.depth s sum.old → IsImageOf f.now.depth x a.now → IsImageOf f.now.depth y b.now → IsImageOf f.now.depth z c.now → IsImageOf f.now.depth w d.now → IsSumOf f.now.depth (plus n s (plus n (times n x w) (times n y z))) sum.new }
 {
-    product::clear(wide);
-    product::add_product(a, b, wide);
-    round::round_all(t, wide, out);
+    f.add_product(sum, a, d);
+    f.add_product(sum, b, c);
 }
 
-/// The sum of the products of c0 and d1 and of c1 and d0, times t / q and rounded, after Karatsuba: the product of
-/// c0 + c1 and d0 + d1 less the outer products, which first and third hold. One product serves for two.
-pub fn middle(
-    t: u32,
-    c0: &mut [i64],
-    c1: &[i64],
-    d0: &mut [i64],
-    d1: &[i64],
-    first: &mut [i128],
-    third: &[i128],
-    out: &mut Poly,
-)
-    requires t_small { t ≤ 65537 }
-    requires c1_len { length c1.now ≡ length c0.old }
-    requires d0_len { length d0.old ≡ length c0.old }
-    requires d1_len { length d1.now ≡ length c0.old }
-    requires first_len { length first.old ≡ length c0.old }
-    requires third_len { length third.now ≡ length c0.old }
-    requires out_len { length out.old ≡ length c0.old }
-    requires short { length c0.old ≤ 1024 }
-    requires c0_small { FitsAll (2 ^ 57) c0.old }
-    requires c1_small { FitsAll (2 ^ 57) c1.now }
-    requires d0_small { FitsAll (2 ^ 57) d0.old }
-    requires d1_small { FitsAll (2 ^ 57) d1.now }
-    requires first { EachIndex first.old (λ k. int_at first.old k ≡ times_at (length c0.old) c0.old d0.old k) }
-    requires third { EachIndex third.now (λ k. int_at third.now k ≡ times_at (length c0.old) c1.now d1.now k) }
-    ensures value { let n = length c0.old in out.new ≡ rounded_all n t (plus n (times n c0.old d1.now) (times n c1.now d0.old)) }
-    ensures long { length out.new ≡ length c0.old }
+/// A sum gains what stands at the power j of 2^19 in the product of x and y.
+pub fn add_part(f: &Transform, j: u32, x: &LimbImages, y: &LimbImages, sum: &mut ImageSum)
+    requires sum { SumFits f.now.depth sum.old }
+    requires few { sum.old.count < 900 }
+    requires x { ImagesFit f.now.depth x.now }
+    requires y { ImagesFit f.now.depth y.now }
+    ensures fits { SumFits f.now.depth sum.new }
+    ensures few { sum.new.count ≤ sum.old.count + 3 }
+    ensures sum { let n = 2 ^ f.now.depth in (s : List ℤ) (a b : Limbs) → IsSumOf f.now.depth s sum.old → AreImages f.now.depth a x.now → AreImages f.now.depth b y.now → IsSumOf f.now.depth (plus n s (limb_part n j a b)) sum.new }
 {
-    sums::negate_both(first, third);
-    sums::add(c0, c1);
-    sums::add(d0, d1);
-    product::add_product(c0, d0, first);
-    round::round_all(t, first, out);
+    match j {
+        0 => f.add_product(sum, &x.low, &y.low),
+        1 => add_crosswise(f, sum, &x.low, &x.middle, &y.low, &y.middle),
+        2 => {
+            add_crosswise(f, sum, &x.low, &x.high, &y.low, &y.high);
+            f.add_product(sum, &x.middle, &y.middle);
+        }
+        3 => add_crosswise(f, sum, &x.middle, &x.high, &y.middle, &y.high),
+        _ => f.add_product(sum, &x.high, &y.high),
+    }
 }

@@ -1,28 +1,33 @@
-ghost use Rattle.std.specs.Prelude.{◌≡◌, ◌∷◌, [], IfOk, length};
+ghost use Rattle.std.specs.Prelude.{◌≡◌, ◌^◌, IfOk, length};
 ghost use Rattle.heco_ring.specs.Ring.{plus, times};
 ghost use Rattle.heco_scheme.specs.Rounding.{centred, rounded_all};
+ghost use Rattle.heco_wide.specs.Limbs.{ImagesFit, RoomFits};
 
-use crate::{centre, part};
+use crate::limbs::LimbImages;
+use crate::product::{multiply, multiply_both};
+use crate::room::Room;
+use crate::round::round_all;
 use heco_nums::{Memory, Preset};
 use heco_poly::Poly;
+use heco_transform::Transform;
 use std::alloc::Global;
 
 /// The room that products of ciphertexts of one preset need.
 #[derive(Debug, Drop)]
 pub struct Tensor {
     pub preset: Preset,
-    c0: Vec<i64>,
-    c1: Vec<i64>,
-    d0: Vec<i64>,
-    d1: Vec<i64>,
-    first: Vec<i128>,
-    third: Vec<i128>,
-    ghost c0_long: { length c0.items ≡ preset.n },
-    ghost c1_long: { length c1.items ≡ preset.n },
-    ghost d0_long: { length d0.items ≡ preset.n },
-    ghost d1_long: { length d1.items ≡ preset.n },
-    ghost first_long: { length first.items ≡ preset.n },
-    ghost third_long: { length third.items ≡ preset.n },
+    transform: Transform,
+    c0: LimbImages,
+    c1: LimbImages,
+    d0: LimbImages,
+    d1: LimbImages,
+    room: Room,
+    ghost degree: { 2 ^ transform.depth ≡ preset.n },
+    ghost c0_fits: { ImagesFit transform.depth c0 },
+    ghost c1_fits: { ImagesFit transform.depth c1 },
+    ghost d0_fits: { ImagesFit transform.depth d0 },
+    ghost d1_fits: { ImagesFit transform.depth d1 },
+    ghost room_fits: { RoomFits transform.depth room },
 }
 
 impl Tensor {
@@ -30,21 +35,20 @@ impl Tensor {
     pub fn open(alloc: Global, p: &Preset) -> Result<Tensor, Memory>
         ensures { IfOk result (λ t. t.preset ≡ p.now) }
     {
-        let n = p.n as usize;
-        let c0 = vec![in alloc; 0; n]?;
-        let c1 = vec![in alloc; 0; n]?;
-        let d0 = vec![in alloc; 0; n]?;
-        let d1 = vec![in alloc; 0; n]?;
-        let first = vec![in alloc; 0; n]?;
-        let third = vec![in alloc; 0; n]?;
+        let transform = Transform::of_preset(alloc, p)?;
+        let c0 = LimbImages::open(alloc, &transform)?;
+        let c1 = LimbImages::open(alloc, &transform)?;
+        let d0 = LimbImages::open(alloc, &transform)?;
+        let d1 = LimbImages::open(alloc, &transform)?;
+        let room = Room::open(alloc, &transform)?;
         Ok(Tensor {
             preset: *p,
+            transform,
             c0,
             c1,
             d0,
             d1,
-            first,
-            third,
+            room,
         })
     }
 
@@ -73,18 +77,16 @@ impl Tensor {
         ensures third { let n = self.old.preset.n in o2.new ≡ rounded_all n self.old.preset.t (times n (centred n c1.now) (centred n d1.now)) }
     {
         let t = self.preset.t;
-        let c0_whole = self.c0.as_mut_slice();
-        let c1_whole = self.c1.as_mut_slice();
-        let d0_whole = self.d0.as_mut_slice();
-        let d1_whole = self.d1.as_mut_slice();
-        let first = self.first.as_mut_slice();
-        let third = self.third.as_mut_slice();
-        centre::centre_all(c0.as_slice(), c0_whole);
-        centre::centre_all(c1.as_slice(), c1_whole);
-        centre::centre_all(d0.as_slice(), d0_whole);
-        centre::centre_all(d1.as_slice(), d1_whole);
-        part::outer(t, c0_whole, d0_whole, first, o0);
-        part::outer(t, c1_whole, d1_whole, third, o2);
-        part::middle(t, c0_whole, c1_whole, d0_whole, d1_whole, first, third, o1);
+        let f = &self.transform;
+        self.c0.take(f, c0.as_slice(), &mut self.room);
+        self.c1.take(f, c1.as_slice(), &mut self.room);
+        self.d0.take(f, d0.as_slice(), &mut self.room);
+        self.d1.take(f, d1.as_slice(), &mut self.room);
+        multiply(f, &self.c0, &self.d0, &mut self.room);
+        round_all(t, self.room.wide.as_slice(), o0);
+        multiply(f, &self.c1, &self.d1, &mut self.room);
+        round_all(t, self.room.wide.as_slice(), o2);
+        multiply_both(f, &self.c0, &self.d1, &self.c1, &self.d0, &mut self.room);
+        round_all(t, self.room.wide.as_slice(), o1);
     }
 }
