@@ -1,4 +1,5 @@
-use Rattle.std.proofs.Common.{◌≡◌, length, ◌∙◌, arith}
+use Rattle.std.proofs.Common.{rules, ◌≡◌, length, ◌∙◌, arith}
+use Rattle.std.proofs.lemmas.Result.{err_from_is_err_and}
 use Rattle.heco_run.proofs.Starting.{fresh_work}
 use Rattle.heco_run.proofs.work.Work.open.Goals as goal
 
@@ -8,3 +9,9 @@ invariant_of-result c =
     let none = rw many at c.in_ok-judge.ensures in
     fresh_work c.args.c.now c.args.e.now c.in_ok-gates.gates.preset c.in_ok-board.board c.in_ok-store.store.items c.in_ok-room.room.items c.args.ins.items c.args.workers
     c.preset-valid.ensures.valid.0 (c.in_ok-gates.ensures ∙ c.preset.ensures) c.requires.one_preset c.requires.inputs none c.in_ok-board.ensures c.in_ok-store.ensures c.in_ok-room.ensures
+
+pub returns-in_err-store-clause-refusal : goal.returns-in_err-store-clause-refusal
+returns-in_err-store-clause-refusal c = let p = err_from_is_err_and c.from_residual-in_err-store.result c.from_residual-in_err-store.ensures.1 in rw (p.1, p.2) (search rules)
+
+pub returns-in_err-room-clause-refusal : goal.returns-in_err-room-clause-refusal
+returns-in_err-room-clause-refusal c = let p = err_from_is_err_and c.from_residual-in_err-room.result c.from_residual-in_err-room.ensures.1 in rw (p.1, p.2) (search rules)
