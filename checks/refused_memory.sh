@@ -1,7 +1,8 @@
 #!/usr/bin/env bash
 # Refuses each allocation of the program in turn, one a run, in three commands: `exec` of the dot product of eight,
 # `compile` of four squarings, which is too deep, and `plain` of one line. Each run must end as it does with all memory,
-# or say `out of memory`, print nothing and leave every file as it was. It is no part of the gate and takes minutes.
+# or say `out of memory`, print nothing and leave every file as it was; where memory runs out before the words are read,
+# `main` says nothing. It is no part of the gate and takes minutes.
 # usage: checks/refused_memory.sh [PROGRAM], where the program is that of ./heco if none is named
 set -u
 top=$(cd "$(dirname "${BASH_SOURCE[0]}")/.." && pwd) || exit 1
@@ -62,20 +63,21 @@ ended() {
   cksum out err "${made[@]}"
 }
 
-# The same of a command that says that memory ran out.
+# The same where memory ran out, with this text on the error stream.
 want_of_memory() {
   printf 'old\n' | tee "${made[@]}" >/dev/null
   : >out
-  echo 'out of memory' >err
+  printf '%s' "$1" >err
   echo 5
   cksum out err "${made[@]}"
 }
-memory=$(want_of_memory)
+memory=$(want_of_memory $'out of memory\n')
+silent=$(want_of_memory '')
 failed=0
 
 # Tries each call of the words.
 try() {
-  local own found count number refusals=0 same=0 wrong=0
+  local own found count number refusals=0 unsaid=0 same=0 wrong=0
   own=$(ended 0 "$@")
   count=$(<calls)
   [ "${count:-0}" -gt 0 ] || { echo "refused_memory.sh: no call was counted" >&2; exit 1; }
@@ -83,6 +85,8 @@ try() {
     found=$(ended "$number" "$@")
     if [ "$found" = "$memory" ]; then
       refusals=$((refusals + 1))
+    elif [ "$found" = "$silent" ] && [ "$unsaid" -eq $((number - 1)) ]; then
+      unsaid=$((unsaid + 1))
     elif [ "$found" = "$own" ]; then
       same=$((same + 1))
     else
@@ -90,8 +94,8 @@ try() {
       printf 'call %s of %s: status %s, %s\n' "$number" "$1" "${found%%$'\n'*}" "$(head -c 200 err)"
     fi
   done
-  printf '%s: %s calls, %s answered with want of memory, %s as with all memory, %s wrongly\n' \
-    "$*" "$count" "$refusals" "$same" "$wrong"
+  printf '%s: %s calls, of which %s ended in want of memory, %s before the words were read, %s as with all memory, %s wrongly\n' \
+    "$*" "$count" "$refusals" "$unsaid" "$same" "$wrong"
 }
 
 try exec dot8.he dot8.in k e "${made[@]}"
