@@ -2,7 +2,11 @@
 #![tactic(auto)]
 
 #[cfg(test)]
+mod constants;
+#[cfg(test)]
 mod decrypted;
+#[cfg(test)]
+mod encrypted;
 #[cfg(test)]
 mod gates;
 #[cfg(test)]
@@ -10,4 +14,4 @@ mod material;
 #[cfg(test)]
 mod owner;
 #[cfg(test)]
-mod rows;
+mod parse;
