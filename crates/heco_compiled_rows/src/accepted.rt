@@ -73,12 +73,24 @@ fn compiled(alloc: Global, source: &str) -> Result<Circuit, Fail> {
     }
 }
 
+fn circuit_holds(alloc: Global, t: &Typed, c: &Circuit, limits: &str) -> Result<bool, Fail> {
+    Ok(is_thrifty(alloc, c, limits)? && is_of(alloc, t, c)?)
+}
+
+fn typed_holds(alloc: Global, t: &Typed, source: &str, limits: &str) -> Result<bool, Fail> {
+    let c = compiled(alloc, source)?;
+    circuit_holds(alloc, t, &c, limits)
+}
+
+fn source_holds(alloc: Global, source: &str, limits: &str) -> Result<bool, Fail> {
+    let t = typed(alloc, source)?;
+    typed_holds(alloc, &t, source, limits)
+}
+
 fn holds(alloc: Global, row: &str) -> Result<bool, Fail> {
     let (field, limits) = row.split_once('|').ok_or("no cost")?;
     let source = source_of(alloc, field)?;
-    let t = typed(alloc, source.as_str())?;
-    let c = compiled(alloc, source.as_str())?;
-    Ok(is_thrifty(alloc, &c, limits)? && is_of(alloc, &t, &c)?)
+    source_holds(alloc, source.as_str(), limits)
 }
 
 #[test]

@@ -1,19 +1,20 @@
 use heco_circuit::{Circuit, bounds, needs};
-use heco_nums::Shape;
+use heco_nums::{KeyNeeds, Shape};
 use std::alloc::Global;
 use std::test::Fail;
 
-/// The keys that the circuit needs: `relin` where it needs that of relinearisation, and the amounts of turns.
-pub fn keys_of(alloc: Global, c: &Circuit) -> Result<String, Fail> {
-    let needs = needs(alloc, c)?;
-    let mut text = String::new(alloc);
-    if needs.relin {
-        text.push_str("relin")?;
-    }
+fn text_of(alloc: Global, needs: &KeyNeeds) -> Result<String, Fail> {
+    let mut text = String::from_str(alloc, if needs.relin { "relin" } else { "" })?;
     for amount in needs.turns.as_slice() {
         text.push_str(format!(in alloc; " {amount}")?.as_str())?;
     }
     Ok(text)
+}
+
+/// The keys that the circuit needs: `relin` where it needs that of relinearisation, and the amounts of turns.
+pub fn keys_of(alloc: Global, c: &Circuit) -> Result<String, Fail> {
+    let needs = needs(alloc, c)?;
+    text_of(alloc, &needs)
 }
 
 /// The greatest bound of a gate, 0 where there is none.

@@ -36,11 +36,30 @@ fn are_same(found: &Outputs, wanted: &Outputs) -> bool {
     true
 }
 
+fn drawn_inputs(alloc: Global, t: &Typed) -> Result<Inputs, Fail> {
+    let values = draw_values(alloc, t.preset(), SEED, 1024)?;
+    rows_of(alloc, t.inputs().as_slice(), values.as_slice())
+}
+
+fn outputs_of(alloc: Global, t: &Typed, inputs: &Inputs) -> Result<Outputs, Fail> {
+    match plain(alloc, t, inputs) {
+        Ok(outputs) => Ok(outputs),
+        Err(_) => Err("a rule of execution is broken".into()),
+    }
+}
+
+fn gives(alloc: Global, c: &Circuit, inputs: &Inputs, wanted: &Outputs) -> Result<bool, Fail> {
+    let found = meaning(alloc, c, inputs)?;
+    Ok(are_same(&found, wanted))
+}
+
+fn gives_the_same(alloc: Global, t: &Typed, c: &Circuit, inputs: &Inputs) -> Result<bool, Fail> {
+    let wanted = outputs_of(alloc, t, inputs)?;
+    gives(alloc, c, inputs, &wanted)
+}
+
 /// Whether the circuit gives what the source gives, on drawn inputs.
 pub fn means_the_source(alloc: Global, t: &Typed, c: &Circuit) -> Result<bool, Fail> {
-    let values = draw_values(alloc, t.preset(), SEED, 1024)?;
-    let inputs = rows_of(alloc, t.inputs().as_slice(), values.as_slice())?;
-    let wanted = plain(alloc, t, &inputs).map_err(|_| "a rule of execution is broken")?;
-    let found = meaning(alloc, c, &inputs)?;
-    Ok(are_same(&found, &wanted))
+    let inputs = drawn_inputs(alloc, t)?;
+    gives_the_same(alloc, t, c, &inputs)
 }

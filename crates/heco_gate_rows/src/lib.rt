@@ -2,7 +2,11 @@
 #![tactic(auto)]
 
 #[cfg(test)]
+mod constants;
+#[cfg(test)]
 mod decrypted;
+#[cfg(test)]
+mod encrypted;
 #[cfg(test)]
 mod gates;
 #[cfg(test)]
@@ -10,8 +14,8 @@ mod material;
 #[cfg(test)]
 mod owner;
 #[cfg(test)]
-mod plain_switch;
+mod parse;
 #[cfg(test)]
-mod rows;
+mod plain_switch;
 #[cfg(test)]
 mod switch_rows;

@@ -19,6 +19,23 @@ pub struct Owner {
     ghost one_preset: { secret.preset ≡ eval.preset },
 }
 
+// Of what reading promises, what making keys asks.
+fn key_words(alloc: Global, p: &Preset, needs: &KeyNeeds, file: &[u8]) -> Result<KeyWords, MatErr>
+    ensures preset { IfOk result (λ k. k.preset ≡ p.now) }
+    ensures turns { IfOk result (λ k. k.needs.turns ≡ needs.now.turns) }
+    ensures material { IfOk result (λ k. IsKeyMaterial k.preset.n k.preset.h k.preset.b (key_count k.needs) (lists_of k)) }
+{
+    read_keys(alloc, p, needs, file)
+}
+
+// Of what reading promises, what encryption asks.
+fn input_words(alloc: Global, p: &Preset, file: &[u8]) -> Result<EncWords, MatErr>
+    ensures preset { IfOk result (λ w. w.preset ≡ p.now) }
+    ensures material { IfOk result (λ w. IsEncMaterial p.now.n p.now.h p.now.b 1 w.rows) }
+{
+    read_enc(alloc, p, 1, file)
+}
+
 fn made(alloc: Global, k: &KeyWords) -> Result<Owner, Memory>
     requires material { let p = k.now.preset in IsKeyMaterial p.n p.h p.b (key_count k.now.needs) (lists_of k.now) }
     requires amounts { AreAmounts k.now.preset.slots k.now.needs.turns }
@@ -33,7 +50,7 @@ pub fn keys_of(alloc: Global, p: &Preset, needs: &KeyNeeds, file: &[u8]) -> Resu
     requires { AreAmounts p.now.slots needs.now.turns }
     ensures { IfOk result (λ o. o.eval.preset ≡ p.now) }
 {
-    let k = read_keys(alloc, p, needs, file)?;
+    let k = key_words(alloc, p, needs, file)?;
     Ok(made(alloc, &k)?)
 }
 
@@ -55,20 +72,27 @@ pub fn sealed(alloc: Global, o: &Owner, file: &[u8], slots: &[u32]) -> Result<Ct
     ensures ciphertext { IfOk result (λ c. IsCiphertext o.now.eval.preset.n c) }
     ensures count { IfOk result (λ c. length c ≡ 2) }
 {
-    let w = read_enc(alloc, o.eval.preset(), 1, file)?;
+    let w = input_words(alloc, o.eval.preset(), file)?;
     Ok(sealed_with(alloc, o, &w, slots)?)
+}
+
+fn opened_by(alloc: Global, o: &Owner, table: &SlotTable, c: &Ct) -> Result<Vec<u32>, Memory>
+    requires table { table.now.preset ≡ o.now.eval.preset }
+    requires ciphertext { IsCiphertext o.now.eval.preset.n c.now }
+{
+    let p = o.secret.preset();
+    let mut out = vec![in alloc; 0; p.slots as usize]?;
+    let mut scratch = Scratch::open(alloc, p)?;
+    decrypt(&o.secret, table, c, out.as_mut_slice(), &mut scratch);
+    Ok(out)
 }
 
 /// The slots that the ciphertext decrypts to.
 pub fn opened(alloc: Global, o: &Owner, c: &Ct) -> Result<Vec<u32>, Memory>
     requires { IsCiphertext o.now.eval.preset.n c.now }
 {
-    let p = o.secret.preset();
-    let table = SlotTable::build(alloc, p)?;
-    let mut scratch = Scratch::open(alloc, p)?;
-    let mut out = vec![in alloc; 0; p.slots as usize]?;
-    decrypt(&o.secret, &table, c, out.as_mut_slice(), &mut scratch);
-    Ok(out)
+    let table = SlotTable::build(alloc, o.secret.preset())?;
+    opened_by(alloc, o, &table, c)
 }
 
 fn back_by(alloc: Global, k: &KeyWords, w: &EncWords, slots: &[u32]) -> Result<Vec<u32>, Memory>
@@ -97,8 +121,8 @@ pub fn back(
     requires slots { length slots.now ≡ p.now.slots }
     requires below { All (λ x. x < p.now.t) slots.now }
 {
-    let k = read_keys(alloc, p, needs, keys)?;
-    let w = read_enc(alloc, p, 1, words)?;
+    let k = key_words(alloc, p, needs, keys)?;
+    let w = input_words(alloc, p, words)?;
     Ok(back_by(alloc, &k, &w, slots)?)
 }
 
