@@ -1,2 +1,3 @@
 pub mod Limbs
+pub mod Rooms
 pub mod Wide

@@ -2,6 +2,7 @@
 #![tactic(auto)]
 
 mod limbs;
+mod multiplier;
 mod part;
 mod product;
 mod room;

@@ -1,33 +1,25 @@
-ghost use Rattle.std.specs.Prelude.{◌≡◌, ◌^◌, IfOk, length};
+ghost use Rattle.std.specs.Prelude.{◌≡◌, IfOk, length};
 ghost use Rattle.heco_ring.specs.Ring.{plus, times};
 ghost use Rattle.heco_scheme.specs.Rounding.{centred, rounded_all};
-ghost use Rattle.heco_wide.specs.Limbs.{ImagesFit, RoomFits};
 
-use crate::limbs::LimbImages;
-use crate::product::{multiply, multiply_both};
-use crate::room::Room;
-use crate::round::round_all;
+use crate::multiplier::Multiplier;
 use heco_nums::{Memory, Preset};
 use heco_poly::Poly;
-use heco_transform::Transform;
 use std::alloc::Global;
+use std::marker::Model;
 
-/// The room that products of ciphertexts of one preset need.
+/// The room that products of ciphertexts of one preset need: contracts see the preset.
 #[derive(Debug, Drop)]
 pub struct Tensor {
-    pub preset: Preset,
-    transform: Transform,
-    c0: LimbImages,
-    c1: LimbImages,
-    d0: LimbImages,
-    d1: LimbImages,
-    room: Room,
-    ghost degree: { 2 ^ transform.depth ≡ preset.n },
-    ghost c0_fits: { ImagesFit transform.depth c0 },
-    ghost c1_fits: { ImagesFit transform.depth c1 },
-    ghost d0_fits: { ImagesFit transform.depth d0 },
-    ghost d1_fits: { ImagesFit transform.depth d1 },
-    ghost room_fits: { RoomFits transform.depth room },
+    multiplier: Multiplier,
+}
+
+impl Model for Tensor {
+    ghost use Rattle.heco_wide.specs.Rooms.{OfPreset};
+
+    ghost Value = { OfPreset };
+
+    ghost view = { λ t. record { preset = t.multiplier.preset } };
 }
 
 impl Tensor {
@@ -35,21 +27,8 @@ impl Tensor {
     pub fn open(alloc: Global, p: &Preset) -> Result<Tensor, Memory>
         ensures { IfOk result (λ t. t.preset ≡ p.now) }
     {
-        let transform = Transform::of_preset(alloc, p)?;
-        let c0 = LimbImages::open(alloc, &transform)?;
-        let c1 = LimbImages::open(alloc, &transform)?;
-        let d0 = LimbImages::open(alloc, &transform)?;
-        let d1 = LimbImages::open(alloc, &transform)?;
-        let room = Room::open(alloc, &transform)?;
-        Ok(Tensor {
-            preset: *p,
-            transform,
-            c0,
-            c1,
-            d0,
-            d1,
-            room,
-        })
+        let multiplier = Multiplier::open(alloc, p)?;
+        Ok(Tensor { multiplier })
     }
 
     /// The three parts of the product of the ciphertexts (c0, c1) and (d0, d1), after Fan and Vercauteren: the products
@@ -76,17 +55,6 @@ impl Tensor {
         ensures second { let n = self.old.preset.n in o1.new ≡ rounded_all n self.old.preset.t (plus n (times n (centred n c0.now) (centred n d1.now)) (times n (centred n c1.now) (centred n d0.now))) }
         ensures third { let n = self.old.preset.n in o2.new ≡ rounded_all n self.old.preset.t (times n (centred n c1.now) (centred n d1.now)) }
     {
-        let t = self.preset.t;
-        let f = &self.transform;
-        self.c0.take(f, c0.as_slice(), &mut self.room);
-        self.c1.take(f, c1.as_slice(), &mut self.room);
-        self.d0.take(f, d0.as_slice(), &mut self.room);
-        self.d1.take(f, d1.as_slice(), &mut self.room);
-        multiply(f, &self.c0, &self.d0, &mut self.room);
-        round_all(t, self.room.wide.as_slice(), o0);
-        multiply(f, &self.c1, &self.d1, &mut self.room);
-        round_all(t, self.room.wide.as_slice(), o2);
-        multiply_both(f, &self.c0, &self.d1, &self.c1, &self.d0, &mut self.room);
-        round_all(t, self.room.wide.as_slice(), o1);
+        self.multiplier.product(c0, c1, d0, d1, o0, o1, o2);
     }
 }

@@ -2,7 +2,7 @@ use Rattle.std.proofs.Common.{◌≡◌, ◌^◌, ◌∙◌, length}
 use Rattle.heco_nums.proofs.PresetFacts.{facts}
 use Rattle.heco_scheme.specs.Rounding.{centred}
 use Rattle.heco_wide.proofs.Products.{some_limbs, Words, product_fits, sum_fits, rounded_product, rounded_sum}
-use Rattle.heco_wide.proofs.tensor.Tensor.product.Goals as goal
+use Rattle.heco_wide.proofs.multiplier.Multiplier.product.Goals as goal
 
 pub round_all-requires-clause-small : goal.round_all-requires-clause-small
 round_all-requires-clause-small c =
