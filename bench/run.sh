@@ -1,0 +1,56 @@
+#!/usr/bin/env bash
+# Builds the programs and prints a table of their best times, in microseconds, of 1024 coefficients.
+# usage: bench/run.sh [ROUNDS]. It wants Debian's libflint-dev and libntl-dev, gcc, clang and rt; no gate runs it.
+set -eu
+rounds=${1:-20}
+top=$(cd "$(dirname "$0")/.." && pwd)
+for package in libflint-dev libntl-dev; do
+  dpkg -s "$package" > /dev/null 2>&1 || { echo "run.sh: first: apt-get install libflint-dev libntl-dev" >&2; exit 2; }
+done
+work=$(mktemp -d)
+trap 'rm -rf "$work"' EXIT
+
+# The programs in C and C++, for the processor level that the gate builds for.
+flags="-O3 -march=x86-64-v2"
+cd "$top/bench/c"
+gcc $flags transform.c -o "$work/c_gcc"
+clang $flags transform.c -o "$work/c_clang"
+gcc $flags flint.c -o "$work/flint" -lflint
+g++ $flags ntl.cpp -o "$work/ntl" -lntl -lgmp -lm -lpthread
+
+# Ours: the crate bench/speed beside copies of the crates that it stands on, proved and built as the gate builds.
+mkdir "$work/crates"
+python3 - "$top" "$work" << 'PYTHON'
+import shutil, sys
+top, work = sys.argv[1:]
+deps = {"speed": ["heco_nums", "heco_poly", "heco_transform", "heco_wide"]}
+for line in open(top + "/crates.txt"):
+    if ":" in line and not line.startswith("#"):
+        name, rest = line.split(":")
+        deps[name.split()[0]] = rest.split()
+wanted, todo = [], ["speed"]
+while todo:
+    name = todo.pop()
+    if name in deps and name not in wanted:
+        wanted.append(name)
+        todo += deps[name]
+with open(work + "/crates.txt", "w") as out:
+    for name in wanted:
+        out.write(f"{name}: {' '.join(deps[name])}\n")
+        source = top + "/bench/speed" if name == "speed" else f"{top}/crates/{name}"
+        shutil.copytree(source, f"{work}/crates/{name}", symlinks=True)
+PYTHON
+(cd "$work" && git init -q . && cd crates/speed && rt run --jobs 1 > "$work/built" 2>&1) || { tail -20 "$work/built" >&2; exit 1; }
+ours="$work/crates/speed/out/speed"
+
+# All give the same numbers.
+for program in c_gcc c_clang flint ntl; do "$work/$program" check; done | sort | uniq -c
+"$ours"
+
+# Alternating rounds; the best of each.
+for _ in $(seq "$rounds"); do
+  for program in c_gcc c_clang flint ntl; do "$work/$program" time 20 | sed "s/^/$program /"; done
+  "$ours" 20 | sed 's/^/rattle /'
+done > "$work/times"
+echo "load $(cut -d' ' -f1-3 /proc/loadavg), $(sed -n 's/^model name.*: //p' /proc/cpuinfo | head -1)"
+awk '{ k = $2 " " $1; if (!(k in best) || $3 < best[k]) best[k] = $3 } END { for (k in best) printf "%-14s %-8s %8.1f us\n", substr(k, 1, index(k, " ") - 1), substr(k, index(k, " ") + 1), best[k] / 1000 }' "$work/times" | sort
