@@ -18,10 +18,10 @@ use Rattle.heco_keys.proofs.MadeRows.{made_public}
 use Rattle.heco_material.specs.KeyLists.{KeyLists}
 use Rattle.heco_material.specs.declared.words.EncRow.{EncRow}
 use Rattle.heco_meaning.specs.Meanings.{filled, wire_at, wires_of, output_values, meaning_of}
-use Rattle.heco_products.specs.Decrypting.{is_output_wire, output_wires, output_wire_count, wire_count, decrypted_slots, decrypted_wires, row_text}
+use Rattle.heco_products.specs.Decrypting.{output_wires, output_wire_count, decrypted_slots, decrypted_wires, row_text}
 use Rattle.heco_products.specs.Encrypting.{encrypted_messages}
 use Rattle.heco_products.specs.KeyProducts.{circuit_key}
-use Rattle.heco_products.specs.Results.{keys_of, result_wires, results_of}
+use Rattle.heco_products.specs.Results.{keys_of}
 use Rattle.heco_products.proofs.CircuitFacts.{short_inputs}
 use Rattle.heco_products.proofs.Products.{fit_below, fit_count, fit_short}
 use Rattle.heco_scheme.specs.Encryption.{decrypted}
@@ -30,6 +30,7 @@ use Rattle.heco_slots.specs.Rows.{first_row, row_of}
 use Rattle.heco_texts.specs.Outputs.{output_text}
 use Rattle.heco_run_laws.specs.Carried.{FitsRow, HasShape, AllShaped, IsFreshFor, HaveKeys}
 use Rattle.heco_run_laws.specs.Messages.{input_message}
+use Rattle.heco_run_laws.specs.Results.{is_output_wire, wire_count, result_wires, results_of}
 use Rattle.heco_run_laws.specs.Runs.{Ciphertext, ciphertext_at, run_of}
 use Rattle.heco_run_laws.proofs.DecryptedRows.{rows_decrypt}
 use Rattle.heco_run_laws.proofs.GateKeys.{circuit_has_keys}
@@ -117,11 +118,11 @@ module _ (p : Preset) (c : Circuit) (k : KeyLists) (material : List EncRow) (mes
   encrypted : AreCiphertexts p.n (length c.inputs) (encrypted_messages p (circuit_key p c k) material messages)
   encrypted = subst (λ n. AreCiphertexts p.n n (encrypted_messages p (circuit_key p c k) material messages)) many (fresh_ciphertexts p k.s messages (encrypted_messages p (circuit_key p c k) material messages) fresh)
 
-  pub runs_read : AreCiphertexts p.n (length c.inputs) (encrypted_messages p (circuit_key p c k) material messages) × AreCiphertexts p.n (output_wire_count c) (results_of p c (circuit_key p c k) (encrypted_messages p (circuit_key p c k) material messages))
+  pub runs_read : AreCiphertexts p.n (length c.inputs) (encrypted_messages p (circuit_key p c k) material messages) × AreCiphertexts p.n (output_wire_count c) (results_of p (keys_of (circuit_key p c k)) c (encrypted_messages p (circuit_key p c k) material messages))
   runs_read = (encrypted, results_are_ciphertexts p c (circuit_key p c k) (encrypted_messages p (circuit_key p c k) material messages) given.valid encrypted)
 
   module _ (e : ℕ) (odd : e % 2 ≡ 1) (rows : List (List ℕ)) (same : map (row_of p e) messages ≡ map (filled p.slots) rows) where
-    pub prints_its_row : row_text p e c k.s (results_of p c (circuit_key p c k) (encrypted_messages p (circuit_key p c k) material messages)) ≡ output_text (map shape_of c.outputs) (meaning_of c rows)
+    pub prints_its_row : row_text p e c k.s (results_of p (keys_of (circuit_key p c k)) c (encrypted_messages p (circuit_key p c k) material messages)) ≡ output_text (map shape_of c.outputs) (meaning_of c rows)
     unfolding results_of meaning_of
     prints_its_row = printed p e k.s c given.valid (wires_of c rows) (run_of p (keys_of (circuit_key p c k)) c.gates (encrypted_messages p (circuit_key p c k) material messages))
         (rows_decrypt p e k.s (keys_of (circuit_key p c k)) c messages rows (encrypted_messages p (circuit_key p c k) material messages) odd given.preset given.valid given.keys.secret has_keys many fresh same)

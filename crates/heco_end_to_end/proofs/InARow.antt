@@ -29,9 +29,10 @@ use Rattle.heco_products.proofs.Products.{marked_long}
 use Rattle.heco_scheme.specs.Bounds.{IsSparse}
 use Rattle.heco_texts.specs.Outputs.{output_text}
 use Rattle.heco_run_laws.specs.Messages.{input_message}
+use Rattle.heco_run_laws.specs.Results.{results_of}
 use Rattle.heco_run_laws.specs.Runs.{Ciphertext}
 use Rattle.heco_products.specs.KeyProducts.{circuit_key, evaluation_file, secret_file}
-use Rattle.heco_products.specs.Results.{results_of, results_file}
+use Rattle.heco_products.specs.Results.{keys_of, results_file}
 use Rattle.heco_end_to_end.specs.EndToEnd.{IsRunnable}
 use Rattle.heco_end_to_end.specs.InARow.{AreReadInARow, MadeKeysAreRead, PrintsTheMeaningInARow}
 use Rattle.heco_end_to_end.proofs.DecryptedRuns.{many_rows, prints_the_meaning, results_are_ciphertexts, runs_are_read}
@@ -91,14 +92,14 @@ module _ (p : Preset) (c : Circuit) (k : KeyLists) (material : List EncRow) (row
     same_inputs = one_list p (magic_of Cts) (length c.inputs) (encrypted_inputs p e material rows) inputs few
         (subst (λ key. AreCiphertexts p.n (length c.inputs) (encrypted_inputs p key material rows)) same_key encrypted) reads.ciphertexts reads.ciphertexts_file
 
-    same_results : results_of p c e inputs ≡ results
+    same_results : results_of p (keys_of e) c inputs ≡ results
     unfolding results_file
-    same_results = one_list p (magic_of Res) (output_wire_count c) (results_of p c e inputs) results (few_results c runs.provided.valid) (results_are_ciphertexts p c e inputs runs.provided.valid reads.ciphertexts) reads.result reads.result_file
+    same_results = one_list p (magic_of Res) (output_wire_count c) (results_of p (keys_of e) c inputs) results (few_results c runs.provided.valid) (results_are_ciphertexts p c e inputs runs.provided.valid reads.ciphertexts) reads.result reads.result_file
 
     pub in_a_row : outputs_text p c s results ≡ output_text (map shape_of c.outputs) (meaning_of c rows)
     in_a_row =
-        ap (outputs_text p c s) (sym (ap (λ key. results_of p c key (encrypted_inputs p key material rows)) same_key ∙ ap (results_of p c e) same_inputs ∙ same_results))
-        ∙ ap (λ secret. outputs_text p c secret (results_of p c (circuit_key p c k) (encrypted_inputs p (circuit_key p c k) material rows))) (sym same_secret) ∙ prints_the_meaning p c k material rows runs
+        ap (outputs_text p c s) (sym (ap (λ key. results_of p (keys_of key) c (encrypted_inputs p key material rows)) same_key ∙ ap (results_of p (keys_of e) c) same_inputs ∙ same_results))
+        ∙ ap (λ secret. outputs_text p c secret (results_of p (keys_of (circuit_key p c k)) c (encrypted_inputs p (circuit_key p c k) material rows))) (sym same_secret) ∙ prints_the_meaning p c k material rows runs
 
 pub commands_in_a_row : PrintsTheMeaningInARow
 commands_in_a_row p c k material rows e s inputs results runs reads = in_a_row p c k material rows runs e s inputs results reads

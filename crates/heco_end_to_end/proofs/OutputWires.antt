@@ -17,7 +17,8 @@ use Rattle.heco_circuit.specs.declared.gate.Cell.TheVariants.{Number, Slot}
 use Rattle.heco_circuit.specs.declared.gate.Gate.{Gate}
 use Rattle.heco_circuit.specs.declared.gate.Output.{Output}
 use Rattle.heco_meaning.specs.Meanings.{wire_at, cell_value, output_values}
-use Rattle.heco_products.specs.Decrypting.{is_slot_of, is_output_wire, wire_count, decrypted_slots, decrypted_wires}
+use Rattle.heco_products.specs.Decrypting.{decrypted_slots, decrypted_wires}
+use Rattle.heco_run_laws.specs.Results.{is_slot_of, is_output_wire, wire_count}
 use Rattle.heco_run_laws.specs.Runs.{Ciphertext}
 
 -- ---- how many wires there are

@@ -12,10 +12,11 @@ use Rattle.heco_meaning.specs.Meanings.{filled, meaning_of}
 use Rattle.heco_products.specs.Decrypting.{output_wire_count, outputs_text, row_text}
 use Rattle.heco_products.specs.Encrypting.{encrypted_inputs, encrypted_messages}
 use Rattle.heco_products.specs.KeyProducts.{circuit_key}
-use Rattle.heco_products.specs.Results.{results_of}
+use Rattle.heco_products.specs.Results.{keys_of}
 use Rattle.heco_slots.specs.Rows.{row_of}
 use Rattle.heco_texts.specs.Answers.{HaveFit}
 use Rattle.heco_texts.specs.Outputs.{output_text}
+use Rattle.heco_run_laws.specs.Results.{results_of}
 use Rattle.heco_run_laws.specs.Runs.{Ciphertext}
 
 -- a valid circuit of the preset, and key and encryption material within bounds for it
@@ -29,7 +30,7 @@ pub record IsProvided (p : Preset) (c : Circuit) (k : KeyLists) (material : List
 
 -- the keys are made, the messages encrypted, and the circuit run
 abbrev pub messages_result : Preset → Circuit → KeyLists → List EncRow → List (List ℕ) → List Ciphertext
-messages_result p c k material messages = results_of p c (circuit_key p c k) (encrypted_messages p (circuit_key p c k) material messages)
+messages_result p c k material messages = results_of p (keys_of (circuit_key p c k)) c (encrypted_messages p (circuit_key p c k) material messages)
 
 -- where the messages have these values, and then zeros, in a row, what decrypting the result prints of this row is the text of the circuit's meaning
 abbrev pub RowsPrintTheMeaning : Type 0
@@ -51,7 +52,7 @@ pub record IsRunnable (p : Preset) (c : Circuit) (k : KeyLists) (material : List
   pub fit : HaveFit p.t c.inputs rows
 
 abbrev pub run_result : Preset → Circuit → KeyLists → List EncRow → List (List ℕ) → List Ciphertext
-run_result p c k material rows = results_of p c (circuit_key p c k) (encrypted_inputs p (circuit_key p c k) material rows)
+run_result p c k material rows = results_of p (keys_of (circuit_key p c k)) c (encrypted_inputs p (circuit_key p c k) material rows)
 
 -- what decrypting the result prints is the text of the circuit's meaning
 abbrev pub PrintsTheMeaning : Preset → Circuit → KeyLists → List EncRow → List (List ℕ) → Type 0
@@ -62,4 +63,4 @@ PrintsTheMeaning p c k material rows = outputs_text p c k.s (run_result p c k ma
 abbrev pub ResultsAreCiphertexts : Type 0
 ResultsAreCiphertexts =
     (p : Preset) (c : Circuit) (e : EvalLists) (inputs : List Ciphertext) → IsCircuit c → AreCiphertexts p.n (length c.inputs) inputs
-    → AreCiphertexts p.n (output_wire_count c) (results_of p c e inputs)
+    → AreCiphertexts p.n (output_wire_count c) (results_of p (keys_of e) c inputs)

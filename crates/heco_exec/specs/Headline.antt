@@ -12,7 +12,8 @@ use Rattle.heco_products.specs.Decrypting.{outputs_text}
 use Rattle.heco_products.specs.Encrypting.{encrypted_inputs, inputs_file}
 use Rattle.heco_products.specs.KeyProducts.{circuit_key, evaluation_file, secret_file}
 use Rattle.heco_products.specs.PresetRows.{preset_of}
-use Rattle.heco_products.specs.Results.{results_of, results_file}
+use Rattle.heco_products.specs.Results.{keys_of, results_file}
+use Rattle.heco_run_laws.specs.Results.{results_of}
 use Rattle.heco_sources.specs.Inputs.{IsInput}
 use Rattle.heco_sources.specs.Sources.{IsSource}
 use Rattle.heco_syntax.specs.declared.tree.Source.{Source}
@@ -59,5 +60,5 @@ module _ (words : List (List ℕ)) where
         file' (name_of words 9) ≡ Some (results_file p circuit key (encrypted_inputs p key material values.rows))
     pub others : (name : List ℕ) → IsOther name (5 ∷ 6 ∷ 7 ∷ 8 ∷ 9 ∷ []) → file' name ≡ file name
     pub decrypted : let p = preset_of circuit.preset in let key = circuit_key p circuit keys in
-        printed ≡ outputs_text p circuit keys.s (results_of p circuit key (encrypted_inputs p key material values.rows))
+        printed ≡ outputs_text p circuit keys.s (results_of p (keys_of key) circuit (encrypted_inputs p key material values.rows))
     pub plain : IsPlainText source values.rows printed

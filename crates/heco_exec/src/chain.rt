@@ -7,7 +7,8 @@ ghost use Rattle.heco_material.specs.KeyLists.{IsEncMaterial, lists_of};
 ghost use Rattle.heco_products.specs.Decrypting.{outputs_text};
 ghost use Rattle.heco_products.specs.Encrypting.{encrypted_inputs, inputs_file};
 ghost use Rattle.heco_products.specs.PresetRows.{preset_of};
-ghost use Rattle.heco_products.specs.Results.{results_file, results_of};
+ghost use Rattle.heco_products.specs.Results.{keys_of, results_file};
+ghost use Rattle.heco_run_laws.specs.Results.{results_of};
 ghost use Rattle.heco_texts.specs.Answers.{HaveFit};
 ghost use Rattle.heco_jobs.specs.Agents.{agents};
 ghost use Rattle.heco_exec.specs.Chain.{AreKeysFor, Yields, numbered};
@@ -78,7 +79,7 @@ fn ran(
     requires inputs { AreCiphertexts key.now.preset.n (length circuit.now.inputs) inputs.items }
     requires keys { HasKeys circuit.now (eval_lists_of key.now) }
     ensures file { IfOk result (λ x. x.0 ≡ results_file key.now.preset circuit.now (eval_lists_of key.now) inputs.items) }
-    ensures text { IfOk result (λ x. x.1 ≡ outputs_text key.now.preset circuit.now secret.now.places (results_of key.now.preset circuit.now (eval_lists_of key.now) inputs.items)) }
+    ensures text { IfOk result (λ x. x.1 ≡ outputs_text key.now.preset circuit.now secret.now.places (results_of key.now.preset (keys_of (eval_lists_of key.now)) circuit.now inputs.items)) }
     ensures leads { OnOk result (Leads circuit.now (agents (rule picker.old) (state picker.old)) (agents (rule picker.new) (state picker.new))) }
     ensures rule { rule picker.new ≡ rule picker.old }
 {

@@ -18,7 +18,8 @@ use Rattle.heco_nums.specs.declared.preset.Preset.{Preset}
 use Rattle.heco_nums.specs.declared.shape.Shape.{Shape}
 use Rattle.heco_scheme.specs.Ciphertexts.{IsCiphertext}
 use Rattle.heco_texts.specs.Answers.{HaveFit}
-use Rattle.heco_products.specs.Decrypting.{is_output_wire, output_wires, wire_count, next_slots, behind_next, decrypted_wires}
+use Rattle.heco_products.specs.Decrypting.{output_wires, next_slots, behind_next, decrypted_wires}
+use Rattle.heco_run_laws.specs.Results.{is_output_wire, wire_count}
 use Rattle.heco_products.specs.Encrypting.{encrypted_inputs, encrypted_input}
 
 -- ---- values that fit

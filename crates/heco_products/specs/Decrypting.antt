@@ -1,28 +1,15 @@
 -- What the ciphertexts of a circuit's result decrypt to, and the text of its outputs.
-use Rattle.std.specs.Prelude.{ℕ, ◌+◌, ◌==◌, Bool, true, false, List, [], ◌∷◌, length, map, ℤ}
-use Rattle.std.specs.List.{list_any, count_by, range_with_len}
-use Rattle.heco_circuit.specs.declared.gate.Cell.{Cell}
-use Rattle.heco_circuit.specs.declared.gate.Cell.TheVariants.{Number, Slot}
-use Rattle.heco_circuit.specs.declared.gate.Output.{Output}
+use Rattle.std.specs.Prelude.{ℕ, Bool, true, false, List, [], ◌∷◌, map, ℤ}
+use Rattle.std.specs.List.{count_by, range_with_len}
 use Rattle.heco_circuit.specs.Plans.{Plan as Circuit, shape_of}
 use Rattle.heco_meaning.specs.Meanings.{output_values}
 use Rattle.heco_nums.specs.declared.preset.Preset.{Preset}
+use Rattle.heco_run_laws.specs.Results.{is_output_wire, wire_count}
 use Rattle.heco_scheme.specs.Encryption.{decrypted}
 use Rattle.heco_slots.specs.Rows.{first_row, row_of}
 use Rattle.heco_texts.specs.Outputs.{output_text}
 
 -- ---- the wires of outputs
-
-abbrev pub is_slot_of : ℕ → Cell → Bool
-is_slot_of w (Number n) = false
-is_slot_of w (Slot wire slot) = wire == w
-
--- an element of an output is a slot of the wire
-abbrev pub is_output_wire : List Output → ℕ → Bool
-is_output_wire outputs w = list_any (λ o. list_any (is_slot_of w) o.cells) outputs
-
-abbrev pub wire_count : Circuit → ℕ
-wire_count c = length c.inputs + length c.gates
 
 -- for each wire whether an output has it
 unfoldable pub output_wires : Circuit → List Bool

@@ -1,6 +1,7 @@
 ghost use Rattle.std.specs.Prelude.{◌≡◌, ◌<◌, ◌^◌, ◌||◌, ℕ, false, IfOk, count_by, length};
 ghost use Rattle.std.specs.List.{list_any, slice_index_or};
-ghost use Rattle.heco_products.specs.Decrypting.{is_slot_of, is_output_wire, output_wires, output_wire_count};
+ghost use Rattle.heco_products.specs.Decrypting.{output_wires, output_wire_count};
+ghost use Rattle.heco_run_laws.specs.Results.{is_slot_of, is_output_wire};
 
 use heco_circuit::{Cell, Circuit, Output};
 use heco_nums::Memory;

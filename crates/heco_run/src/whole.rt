@@ -4,8 +4,10 @@ ghost use Rattle.heco_schedules.specs.Events.{legal_events};
 ghost use Rattle.heco_schedules.specs.Picks.{Picked};
 ghost use Rattle.heco_schedules.specs.Runs.{fresh};
 ghost use Rattle.heco_sched.specs.Wirings.{wiring};
+ghost use Rattle.heco_run_laws.specs.Results.{results_of};
 ghost use Rattle.heco_run.specs.Refusals.{opening_refusal, IsCause};
-ghost use Rattle.heco_run.specs.Results.{kept, results_of, IsRun};
+ghost use Rattle.heco_run.specs.Making.{keys_of};
+ghost use Rattle.heco_run.specs.Results.{kept, IsRun};
 ghost use Rattle.heco_run.specs.Shapes.{AreTwoParts};
 ghost use Rattle.heco_run.specs.Spares.{HasSpare, advanced_by_all};
 
@@ -86,7 +88,7 @@ pub fn run(
     requires inputs { AreTwoParts e.now.preset.n ins.items }
     requires count { length ins.items < 2 ^ 32 }
     ensures refusal { MatchResult result (λ _. opening_refusal c.now e.now.needs (length ins.items) ≡ None) (λ why. IsCause why (opening_refusal c.now e.now.needs (length ins.items))) }
-    ensures outs { IfOk result (λ ran. ran.outs ≡ results_of c.now e.now ins.items) }
+    ensures outs { IfOk result (λ ran. ran.outs ≡ results_of e.now.preset (keys_of e.now) c.now ins.items) }
     ensures shaped { IfOk result (λ ran. AreTwoParts e.now.preset.n ran.outs) }
     ensures events { IfOk result (λ ran. IsRun (rule picker.old) c.now (state picker.old) ran.events (state picker.new)) }
     ensures rule { rule picker.new ≡ rule picker.old }

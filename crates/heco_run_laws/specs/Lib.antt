@@ -1,4 +1,5 @@
 pub mod Runs
+pub mod Results
 pub mod Messages
 pub mod Carried
 pub mod Measured

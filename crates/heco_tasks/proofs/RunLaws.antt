@@ -1,29 +1,21 @@
--- The run of a circuit as files and key lists tell it: its result, what it asks of the key, and the parts of its inputs.
+-- The run of a circuit as files and key lists tell it: its keys, what it asks of them, and the parts of its inputs.
 use Rattle.std.proofs.Common.{◌≡◌, ◌≢◌, ◌∙◌, ◌<◌, ◌+◌, ◌&&◌, ◌==◌, not, ℕ, Bool, true, false, List, length, map, get_or, Option, Some, None, Result, Ok, Err, refl, sym, ap, subst, inl, arith}
 use Rattle.std.specs.Prelude.{All, if◌then◌else◌}
-use Rattle.std.specs.List.{filter, slice_get, range_with_len}
+use Rattle.std.specs.List.{slice_get}
 use Rattle.std.specs.Option.{option_map}
 use Rattle.std.proofs.lemmas.Bool.{eq-eqb}
 use Rattle.std.proofs.lemmas.List.Elements.{All-get_or}
 use Rattle.std.proofs.lemmas.Option.{get_or_from_slice_get, slice_get_within}
 use Rattle.heco_circuit.specs.Needs.{needs_relin, needed_turns}
 use Rattle.heco_circuit.specs.Plans.{Plan as Circuit}
-use Rattle.heco_circuit.specs.declared.gate.Cell.{Cell}
 use Rattle.heco_ciphertext_files.specs.CiphertextFiles.{AreCiphertexts, IsTwoParts}
 use Rattle.heco_key_files.specs.KeyFiles.{EvalLists, lists_of}
 use Rattle.heco_keys.specs.declared.eval.Eval.{Eval}
 use Rattle.heco_scheme.specs.Bounds.{AreWords}
-use Rattle.heco_products.specs.Decrypting.{is_slot_of, is_output_wire, wire_count}
-use Rattle.heco_products.specs.Results.{results_of, result_wires, keys_of}
-use Rattle.heco_schedules.proofs.Lists.{length-map}
-use Rattle.heco_schedules.specs.Standings.{is_output}
-use Rattle.heco_schedules.specs.Tables.{below}
-use Rattle.heco_sched.proofs.OutputNames.{TestsSlots, outputs_named, numbers_range}
-use Rattle.heco_sched.specs.Wirings.{wiring, operands_of}
-use Rattle.heco_run_laws.specs.Runs.{Ciphertext, ciphertext_at, run_of}
+use Rattle.heco_products.specs.Results.{keys_of}
+use Rattle.heco_run_laws.specs.Runs.{Ciphertext}
 use Rattle.heco_run.specs.Making.{keys_of as run_keys}
 use Rattle.heco_run.specs.Refusals.{missing_turn, opening_refusal, IsCause}
-use Rattle.heco_run.specs.Results.{results_of as run_results, result_wires as run_wires}
 use Rattle.heco_run.specs.Shapes.{AreTwoParts as AreInputs}
 use Rattle.heco_run.specs.declared.error.RunErr.{RunErr}
 use Rattle.heco_run.specs.declared.error.RunErr.TheVariants as opening
@@ -43,21 +35,12 @@ left_alone (ReadFault k) x = refl
 left_alone (WriteFault k) x = tt
 left_alone Memory x = tt
 
--- ---- the result
+-- ---- the keys of a run
 
-slots_tested : TestsSlots is_slot_of
-slots_tested = record { number = λ wire n. refl; slot = λ wire w slot. refl }
-
-wires_are : (c : Circuit) → run_wires c ≡ result_wires c
-wires_are c =
-    ap (λ n. filter (is_output (wiring c)) (below (length c.inputs + n))) (length-map operands_of c.gates)
-    ∙ (ap (λ ws. filter (is_output (wiring c)) ws) (numbers_range 0 (wire_count c))
-    ∙ ap (λ (test : ℕ → Bool). filter test (range_with_len 0 (wire_count c))) (λ i. λ w. outputs_named is_slot_of slots_tested c.outputs w i))
-
--- over the key's lists it is that of the run
-pub same_results : (c : Circuit) (e : Eval) (inputs : List Ciphertext) → run_results c e inputs ≡ results_of e.preset c (lists_of e) inputs
-unfolding run_results run_keys results_of
-same_results c e inputs = ap (λ (ws : List ℕ). map (ciphertext_at (run_of e.preset (keys_of (lists_of e)) c.gates inputs)) ws) (wires_are c)
+-- those of the key's lists are the key's own
+pub same_keys : (e : Eval) → run_keys e ≡ keys_of (lists_of e)
+unfolding run_keys
+same_keys e = refl
 
 -- ---- the inputs
 

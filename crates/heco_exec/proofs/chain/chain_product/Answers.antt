@@ -9,7 +9,8 @@ use Rattle.heco_products.specs.Decrypting.{outputs_text}
 use Rattle.heco_products.specs.Encrypting.{encrypted_inputs, inputs_file}
 use Rattle.heco_products.specs.KeyProducts.{circuit_key, evaluation_file}
 use Rattle.heco_products.specs.PresetRows.{preset_of}
-use Rattle.heco_products.specs.Results.{results_file, results_of}
+use Rattle.heco_products.specs.Results.{keys_of, results_file}
+use Rattle.heco_run_laws.specs.Results.{results_of}
 use Rattle.heco_tasks.proofs.MadeFileLaws.{made_keys_serve}
 use Rattle.heco_tasks.specs.Running.{HasKeys}
 use Rattle.heco_texts.specs.Answers.{HaveFit}
@@ -71,8 +72,8 @@ returns-clause-yields g c =
     let third = c.in_ok-files.ensures.key ∙ ap (λ (q : Preset). eval_text q.id e) made.preset ∙ ap (eval_text p.id) made.evaluation in
     let fourth = c.in_ok-inputs.ensures.file ∙ ap (λ q. inputs_file q e words rows) made.preset ∙ ap (λ x. inputs_file p x words rows) made.evaluation in
     let fifth = c.in_ok-results_file.ensures.file ∙ ap (λ q. results_file q circuit e items) made.preset ∙ ap (λ x. results_file p circuit x items) made.evaluation ∙ ap (results_file p circuit key) is in
-    let text = c.in_ok-results_file.ensures.text ∙ ap (λ q. outputs_text q circuit s (results_of q circuit e items)) made.preset ∙ ap (λ x. outputs_text p circuit s (results_of p circuit x items)) made.evaluation
-    ∙ ap (λ ins. outputs_text p circuit s (results_of p circuit key ins)) is ∙ ap (λ x. outputs_text p circuit x (results_of p circuit key (encrypted_inputs p key words rows))) made.secret.1 in
+    let text = c.in_ok-results_file.ensures.text ∙ ap (λ q. outputs_text q circuit s (results_of q (keys_of e) circuit items)) made.preset ∙ ap (λ x. outputs_text p circuit s (results_of p (keys_of x) circuit items)) made.evaluation
+    ∙ ap (λ ins. outputs_text p circuit s (results_of p (keys_of key) circuit ins)) is ∙ ap (λ x. outputs_text p circuit x (results_of p (keys_of key) circuit (encrypted_inputs p key words rows))) made.secret.1 in
     record {
       writes = c.in_ok-product.ensures.writes ∙ same_five _ _ _ _ _ (circuit_text circuit) (secret_text p.id k.s) (eval_text p.id key) (inputs_file p key words rows) (results_file p circuit key (encrypted_inputs p key words rows))
           c.in_ok-files.ensures.circuit second third fourth fifth;

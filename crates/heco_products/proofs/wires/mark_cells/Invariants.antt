@@ -1,6 +1,6 @@
 use Rattle.std.proofs.Common.{◌≡◌, ◌<◌, ℕ, false, ◌||◌, length, get_or}
 use Rattle.std.specs.List.{list_any}
-use Rattle.heco_products.specs.Decrypting.{is_slot_of}
+use Rattle.heco_run_laws.specs.Results.{is_slot_of}
 use Rattle.heco_products.proofs.wires.mark_cells.Given as goal
 
 abbrev pub invariant-loop-rest : goal.invariant-loop-rest

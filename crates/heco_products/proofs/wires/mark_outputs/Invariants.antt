@@ -1,5 +1,5 @@
 use Rattle.std.proofs.Common.{◌≡◌, ◌<◌, ℕ, false, ◌||◌, length, get_or}
-use Rattle.heco_products.specs.Decrypting.{is_output_wire}
+use Rattle.heco_run_laws.specs.Results.{is_output_wire}
 use Rattle.heco_products.proofs.wires.mark_outputs.Given as goal
 
 abbrev pub invariant-loop-rest : goal.invariant-loop-rest

@@ -1,6 +1,6 @@
 use Rattle.std.proofs.Common.{◌≡◌, ◌+◌, ◌≤◌, ◌<◌, ◌^◌, ◌∙◌, false, ap, sym, subst, length, arith}
 use Rattle.std.specs.Prelude.{replicate}
-use Rattle.heco_products.specs.Decrypting.{wire_count}
+use Rattle.heco_run_laws.specs.Results.{wire_count}
 use Rattle.heco_products.proofs.CircuitFacts.{few_inputs, few_gates}
 use Rattle.heco_products.proofs.Products.{marked_list, marked_long}
 use Rattle.heco_products.proofs.wires.output_wires.Goals as goal
