@@ -1,4 +1,5 @@
-use heco_row_steps::{Bench, text_of};
+use crate::bench::Bench;
+use crate::text::text_of;
 use std::alloc::Global;
 use std::test::Fail;
 
