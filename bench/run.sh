@@ -18,30 +18,9 @@ clang $flags transform.c -o "$work/c_clang"
 gcc $flags flint.c -o "$work/flint" -lflint
 g++ $flags ntl.cpp -o "$work/ntl" -lntl -lgmp -lm -lpthread
 
-# Ours: the crate bench/speed beside copies of the crates that it stands on, proved and built as the gate builds.
-mkdir "$work/crates"
-python3 - "$top" "$work" << 'PYTHON'
-import shutil, sys
-top, work = sys.argv[1:]
-deps = {"speed": ["heco_nums", "heco_poly", "heco_transform", "heco_wide"]}
-for line in open(top + "/crates.txt"):
-    if ":" in line and not line.startswith("#"):
-        name, rest = line.split(":")
-        deps[name.split()[0]] = rest.split()
-wanted, todo = [], ["speed"]
-while todo:
-    name = todo.pop()
-    if name in deps and name not in wanted:
-        wanted.append(name)
-        todo += deps[name]
-with open(work + "/crates.txt", "w") as out:
-    for name in wanted:
-        out.write(f"{name}: {' '.join(deps[name])}\n")
-        source = top + "/bench/speed" if name == "speed" else f"{top}/crates/{name}"
-        shutil.copytree(source, f"{work}/crates/{name}", symlinks=True)
-PYTHON
-(cd "$work" && git init -q . && cd crates/speed && rt run --jobs 1 > "$work/built" 2>&1) || { tail -20 "$work/built" >&2; exit 1; }
-ours="$work/crates/speed/out/speed"
+# Ours, proved and built as the gate builds it.
+(cd "$top/crates/heco_speed" && rt run > "$work/built" 2>&1) || { tail -20 "$work/built" >&2; exit 1; }
+ours="$top/crates/heco_speed/out/heco_speed"
 
 # All give the same numbers.
 for program in c_gcc c_clang flint ntl; do "$work/$program" check; done | sort | uniq -c
