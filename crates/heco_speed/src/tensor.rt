@@ -9,6 +9,7 @@ use std::alloc::Global;
 /// Two ciphertexts, and room for their product.
 #[derive(Drop)]
 pub struct Tensors {
+    n: u32,
     tensor: Tensor,
     c0: Poly,
     c1: Poly,
@@ -17,10 +18,11 @@ pub struct Tensors {
     o0: Poly,
     o1: Poly,
     o2: Poly,
-    ghost c0_long: { length c0 ≡ tensor.preset.n },
-    ghost c1_long: { length c1 ≡ tensor.preset.n },
-    ghost d0_long: { length d0 ≡ tensor.preset.n },
-    ghost d1_long: { length d1 ≡ tensor.preset.n },
+    ghost degree: { tensor.preset.n ≡ n },
+    ghost c0_long: { length c0 ≡ n },
+    ghost c1_long: { length c1 ≡ n },
+    ghost d0_long: { length d0 ≡ n },
+    ghost d1_long: { length d1 ≡ n },
 }
 
 impl Tensors {
@@ -34,6 +36,7 @@ impl Tensors {
         let o1 = Poly::zero(alloc, p)?;
         let o2 = Poly::zero(alloc, p)?;
         Ok(Tensors {
+            n: p.n,
             tensor,
             c0,
             c1,
@@ -46,7 +49,7 @@ impl Tensors {
     }
 
     pub fn multiply(&mut self) {
-        let n = self.tensor.preset.n;
+        let n = self.n;
         if self.o0.len() == n && self.o1.len() == n && self.o2.len() == n {
             self.tensor.product(
                 &self.c0,
