@@ -1,24 +1,25 @@
 -- The test of a circuit says that it has a spelling.
-use Rattle.std.proofs.Common.{◌≡◌, ℕ, zero, suc, ◌+◌, ◌-◌, ◌^◌, ◌<◌, ◌≤◌, Bool, true, false, ◌&&◌, leb, ltb, eqb, List, [], ◌∷◌, ◌++◌, length, refl, sym, ap, subst, ◌∙◌, arith, length-append}
+use Rattle.std.proofs.Common.{◌≡◌, ℕ, suc, ◌+◌, ◌-◌, ◌^◌, ◌<◌, ◌≤◌, Bool, true, false, ◌&&◌, leb, eqb, List, [], ◌∷◌, length, refl, ap, ◌∙◌, arith, length-append, cond}
 use Rattle.std.specs.Prelude.{IsTrue}
-use Rattle.std.specs.List.{list_all}
-use Rattle.std.proofs.lemmas.Bool.{leb-true, ltb-true}
+use Rattle.std.specs.List.{list_all, list_any}
+use Rattle.std.proofs.lemmas.Bool.{leb-true, ltb-true, eq-eqb}
 use Rattle.std.proofs.lemmas.Bool.Decides.{nat_tests}
 use Rattle.heco_nums.specs.Presets.{modulus_of, slots_of}
 use Rattle.heco_nums.specs.declared.shape.Shape.{Shape}
 use Rattle.heco_fields.specs.Runs.{along, all_along, stays}
 use Rattle.heco_fields.specs.Runs.{FitAlong}
-use Rattle.heco_fields.proofs.ManyLaws.{along_passes, passes_along}
+use Rattle.heco_fields.proofs.ManyLaws.{along_passes, both_along, passes_along}
 use Rattle.heco_circuit.specs.declared.gate.Cell.{Cell}
 use Rattle.heco_circuit.specs.declared.gate.Cell.TheVariants.{Number, Slot}
 use Rattle.heco_circuit.specs.declared.gate.Gate.{Gate}
-use Rattle.heco_circuit.specs.declared.gate.Gate.TheVariants.{Neg, Add, Mul, Relin, Scale, Shift, Turn}
+use Rattle.heco_circuit.specs.declared.gate.Gate.TheVariants.{Neg, Add, Sub, Mul, Relin, Scale, Shift, Turn}
 use Rattle.heco_circuit.specs.declared.gate.Output.{Output}
 use Rattle.heco_circuit.specs.Validity.{is_between, is_wire, has_parts, is_gate, parts_of, with_gate}
+use Rattle.heco_circuit.specs.Versions.{is_sub, newest, version_of}
 use Rattle.heco_circuit.specs.Plans.{Plan, push, is_new, is_name, is_input, is_cell, is_output, input_parts, wire_parts, are_inputs, are_gates, are_outputs, is_formed}
 use Rattle.heco_fields.proofs.Bools.{both_true, and_true}
-use Rattle.heco_circuit.proofs.GateLaws.{MayStand, IsNarrow}
-use Rattle.heco_circuit.proofs.PortLaws.{IsOwnName, IsInput, IsCell, IsOutput}
+use Rattle.heco_circuit.proofs.GateLaws.{MayStand, IsNarrow, is_of, own_version}
+use Rattle.heco_circuit.proofs.PortLaws.{IsInput, IsCell, IsOutput}
 use Rattle.heco_circuit.proofs.CircuitLaw.{IsPlan, AreInputs, AreGates, AreOutputs}
 
 slots_small : (id : ℕ) → slots_of id ≤ 512
@@ -62,6 +63,7 @@ amount_small slots low r small h = let le = high low (slots - 1) r h in omega ar
 narrow : (t slots : ℕ) (parts : List ℕ) → t ≤ 65537 → slots ≤ 512 → length parts ≤ 2 ^ 32 → (g : Gate) → IsTrue (is_gate t slots parts g) → IsNarrow g
 narrow t slots parts ts ss le (Neg a) h = wire_small parts a le h
 narrow t slots parts ts ss le (Add a b) h = let u = both_true (is_wire parts a) (is_wire parts b) h in (wire_small parts a le u.0, wire_small parts b le u.1)
+narrow t slots parts ts ss le (Sub a b) h = let u = both_true (is_wire parts a) (is_wire parts b) h in (wire_small parts a le u.0, wire_small parts b le u.1)
 narrow t slots parts ts ss le (Mul a b) h = let u = both_true (has_parts 2 parts a) (has_parts 2 parts b) h in (parts_small 2 parts a le u.0, parts_small 2 parts b le u.1)
 narrow t slots parts ts ss le (Relin a) h = parts_small 3 parts a le h
 narrow t slots parts ts ss le (Scale c a) h = let u = both_true (is_between 1 (t - 1) c) (is_wire parts a) h in (constant_small t 1 c ts u.0, wire_small parts a le u.1)
@@ -72,11 +74,15 @@ narrow t slots parts ts ss le (Turn r a) h = let u = both_true (is_between 1 (sl
 abbrev HasRoom : ℕ → List ℕ → Type 0
 HasRoom n parts = length parts + n ≤ 2 ^ 32
 
-gates_from : (t slots : ℕ) → t ≤ 65537 → slots ≤ 512 → (parts : List ℕ) (gs : List Gate) → HasRoom (length gs) parts → IsTrue (all_along (is_gate t slots) with_gate parts gs) → FitAlong (MayStand t slots) with_gate parts gs
-gates_from t slots ts ss =
-    passes_along (MayStand t slots) (is_gate t slots) with_gate HasRoom
+gates_from : (version t slots : ℕ) → t ≤ 65537 → slots ≤ 512 → (parts : List ℕ) (gs : List Gate) → HasRoom (length gs) parts → IsTrue (all_along (is_gate t slots) with_gate parts gs)
+    → IsTrue (list_all (is_of version) gs) → FitAlong (MayStand version t slots) with_gate parts gs
+gates_from version t slots ts ss parts gs room valid of =
+    both_along (λ parts g. IsTrue (is_gate t slots parts g) × IsNarrow g) (is_of version) with_gate parts gs
+    (passes_along (λ parts g. IsTrue (is_gate t slots parts g) × IsNarrow g) (is_gate t slots) with_gate HasRoom
     (λ n parts g room. omega (arith, length-append parts (parts_of parts g ∷ [])))
     (λ n parts g room h. (h, narrow t slots parts ts ss (omega arith) g h))
+    parts gs room valid)
+    of
 
 pub length-input_parts : (i : List Shape) → length (input_parts i) ≡ length i
 length-input_parts [] = refl
@@ -118,21 +124,35 @@ output_from t slots inputs parts ts ss le earlier o h =
 abbrev Any : {A : Type 0} → ℕ → List A → Type 0
 Any n xs = Unit {0}
 
+-- ---- the version
+
+version_cases : (P : ℕ → Type 0) → P 2 → P 1 → (some : Bool) → P (cond some 2 1)
+version_cases P two one true = two
+version_cases P two one false = one
+
+two_versions : (gates : List Gate) → version_of gates < 2 ^ 8
+two_versions gates = version_cases (λ v. v < 2 ^ 8) (omega arith) (omega arith) (list_any is_sub gates)
+
+version_between : (gates : List Gate) → IsTrue (is_between 1 newest (version_of gates))
+version_between gates = version_cases (λ v. IsTrue (is_between 1 newest v)) refl refl (list_any is_sub gates)
+
 -- ---- the whole
 
 pub formed : (p : Plan) → IsPlan p → IsTrue (is_formed p)
 formed p h =
     let id = p.preset in
+    let version = version_of p.gates in
     let t = modulus_of id in
     let slots = slots_of id in
     let i : IsTrue (are_inputs p) = and_true _ _ (both_true _ _ h.1.0.0.1).1 (along_passes (IsInput slots) (is_input slots) push (input_passes slots) [] p.inputs h.1.0.1) in
-    let g : IsTrue (are_gates p) = and_true _ _ (both_true _ _ h.1.1.0.0.1).1 (along_passes (MayStand t slots) (is_gate t slots) with_gate (λ parts g m. m.0) (input_parts p.inputs) p.gates h.1.1.0.1) in
-    let o : IsTrue (are_outputs p) = and_true _ _ (both_true _ _ h.1.1.1.0.1).1 (along_passes (IsOutput t slots p.inputs (wire_parts p)) (is_output t slots p.inputs (wire_parts p)) push (output_passes t slots p.inputs (wire_parts p)) [] p.outputs h.1.1.1.1) in
-    and_true (is_between 1 5 id) (are_inputs p && (are_gates p && are_outputs p)) h.0.1 (and_true (are_inputs p) (are_gates p && are_outputs p) i (and_true (are_gates p) (are_outputs p) g o))
+    let g : IsTrue (are_gates p) = and_true _ _ (both_true _ _ h.1.1.0.0.1).1 (along_passes (MayStand version t slots) (is_gate t slots) with_gate (λ parts g m. m.0.0) (input_parts p.inputs) p.gates h.1.1.0.1) in
+    let o : IsTrue (are_outputs p) = and_true _ _ (both_true _ _ (both_true (eqb version version) (is_between 0 (256 - length p.inputs) (length p.outputs)) h.1.1.1.0.1).1).1 (along_passes (IsOutput t slots p.inputs (wire_parts p)) (is_output t slots p.inputs (wire_parts p)) push (output_passes t slots p.inputs (wire_parts p)) [] p.outputs h.1.1.1.1) in
+    and_true (is_between 1 5 id) (are_inputs p && (are_gates p && are_outputs p)) h.0.1.1 (and_true (are_inputs p) (are_gates p && are_outputs p) i (and_true (are_gates p) (are_outputs p) g o))
 
 pub spellable : (p : Plan) → IsTrue (is_formed p) → IsPlan p
 spellable p h =
     let id = p.preset in
+    let version = version_of p.gates in
     let t = modulus_of id in
     let slots = slots_of id in
     let ts = modulus_small id in
@@ -149,9 +169,9 @@ spellable p h =
     let o_le = leb-true _ _ o.0 in
     let wires : length (wire_parts p) ≡ length p.inputs + length p.gates = length-along (input_parts p.inputs) p.gates ∙ ap (λ n. n + length p.gates) (length-input_parts p.inputs) in
     let are_i : AreInputs id p.inputs = ((omega arith, between 256 (length p.inputs) i_le), passes_along (IsInput slots) (is_input slots) push Any (λ n s x _. tt) (λ n s x _ u. input_from slots ss s x u) [] p.inputs tt i.1) in
-    let are_g : AreGates id (input_parts p.inputs) p.gates = ((omega arith, between (2 ^ 25 - 1) (length p.gates) g_le), gates_from t slots ts ss (input_parts p.inputs) p.gates (omega (arith, length-input_parts p.inputs)) g.1) in
-    let are_o : AreOutputs id p.inputs (wire_parts p) p.outputs = (
-      (omega arith, between (256 - length p.inputs) (length p.outputs) o_le),
+    let are_g : AreGates version id (input_parts p.inputs) p.gates = ((omega arith, between (2 ^ 25 - 1) (length p.gates) g_le), gates_from version t slots ts ss (input_parts p.inputs) p.gates (omega (arith, length-input_parts p.inputs)) g.1 (own_version p.gates)) in
+    let are_o : AreOutputs version id p.inputs p.gates (wire_parts p) p.outputs = (
+      (omega arith, and_true (eqb version version) (is_between 0 (256 - length p.inputs) (length p.outputs)) (eq-eqb version version refl) (between (256 - length p.inputs) (length p.outputs) o_le)),
       passes_along (IsOutput t slots p.inputs (wire_parts p)) (is_output t slots p.inputs (wire_parts p)) push Any (λ n s x _. tt) (λ n s x _ u. output_from t slots p.inputs (wire_parts p) ts ss (omega arith) s x u) [] p.outputs tt o.1,
     ) in
-    ((omega arith, a.0), (are_i, (are_g, are_o)))
+    (((two_versions p.gates, version_between p.gates), (omega arith, a.0)), (are_i, (are_g, are_o)))

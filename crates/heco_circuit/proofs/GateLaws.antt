@@ -1,22 +1,25 @@
 -- What is read of a gate is what was spelled, for exactly the gates that may stand there.
-use Rattle.std.proofs.Common.{◌≡◌, ℕ, zero, suc, ◌+◌, ◌-◌, ◌^◌, ◌<◌, ◌≤◌, Bool, true, false, cond, ◌&&◌, ◌||◌, leb, ltb, eqb, List, [], ◌∷◌, ◌++◌, length, Result, Ok, Err, refl, sym, ap, subst, ◌∙◌, append_assoc, arith, inl, inr, ◌⊎◌}
+use Rattle.std.proofs.Common.{◌≡◌, ℕ, ◌-◌, ◌^◌, ◌<◌, Bool, true, false, cond, ◌&&◌, ◌||◌, eqb, List, [], ◌∷◌, ◌++◌, refl, sym, ap, subst, arith, inl, inr, ◌⊎◌}
 use Rattle.std.specs.Prelude.{IsTrue}
+use Rattle.std.specs.List.{list_any, list_all}
 use Rattle.std.specs.Int.{w8, w16, w32, to_be_bytes}
 use Rattle.std.proofs.lemmas.List.{append-nil}
-use Rattle.std.proofs.lemmas.Bool.{eqb-true, leb-true, ltb-true}
-use Rattle.heco_fields.specs.Formats.{Format, Value, number, within, ◌>>=◌ as ◌then◌}
+use Rattle.std.proofs.lemmas.Bool.{eqb-true, or_left, or_right}
+use Rattle.heco_fields.specs.Formats.{Value, number, within, ◌>>=◌ as ◌then◌}
 use Rattle.heco_fields.proofs.Laws.{Law, value_law, then_law, same_law}
 use Rattle.heco_fields.proofs.FieldLaws.{number_law, wide8, wide16, wide32}
 use Rattle.heco_fields.proofs.Bools.{both_true, and_true}
 use Rattle.heco_circuit.specs.declared.gate.Gate.{Gate}
-use Rattle.heco_circuit.specs.declared.gate.Gate.TheVariants.{Neg, Add, Mul, Relin, Scale, Shift, Turn}
+use Rattle.heco_circuit.specs.declared.gate.Gate.TheVariants.{Neg, Add, Sub, Mul, Relin, Scale, Shift, Turn}
 use Rattle.heco_circuit.specs.Validity.{is_wire, has_parts, is_between, is_gate}
-use Rattle.heco_circuit.specs.GateFormat.{is_tag, wire, wire_of, neg, add, mul, relin, scale, shift, turn, operands, gate, operands_text, tag_of, gate_text}
+use Rattle.heco_circuit.specs.Versions.{is_sub, version_of}
+use Rattle.heco_circuit.specs.GateFormat.{is_tag, wire, wire_of, neg, add, sub, mul, relin, scale, shift, turn, operands, gate, operands_text, tag_of, gate_text}
 
 -- the numbers of a gate fit their fields
 abbrev pub IsNarrow : Gate → Type 0
 IsNarrow (Neg a) = a < 2 ^ 32
 IsNarrow (Add a b) = (a < 2 ^ 32) × (b < 2 ^ 32)
+IsNarrow (Sub a b) = (a < 2 ^ 32) × (b < 2 ^ 32)
 IsNarrow (Mul a b) = (a < 2 ^ 32) × (b < 2 ^ 32)
 IsNarrow (Relin a) = a < 2 ^ 32
 IsNarrow (Scale c a) = (c < 2 ^ 32) × (a < 2 ^ 32)
@@ -31,6 +34,7 @@ Stands t slots parts tag g = (tag_of g ≡ tag) × IsTrue (is_gate t slots parts
 abbrev first : Gate → ℕ
 first (Neg a) = a
 first (Add a b) = a
+first (Sub a b) = a
 first (Mul a b) = a
 first (Relin a) = a
 first (Scale c a) = c
@@ -39,6 +43,7 @@ first (Turn r a) = r
 
 abbrev second : Gate → ℕ
 second (Add a b) = b
+second (Sub a b) = b
 second (Mul a b) = b
 second (Scale c a) = a
 second (Shift c a) = a
@@ -100,6 +105,24 @@ add_law t slots parts =
     (λ g h. subst (λ (k : Gate). to_be_bytes w32 (first k) ++ (to_be_bytes w32 (second k) ++ []) ≡ operands_text k) h.1.1 (ap (λ s. to_be_bytes w32 (first g) ++ s) (append-nil (to_be_bytes w32 (second g)))))
     (λ g h. subst (Stands t slots parts 2) h.1.1 (refl, and_true _ _ h.0.1 h.1.0.1, (h.0.0, h.1.0.0)))
     (add_from t slots parts)
+
+abbrev sub_fits : (t slots : ℕ) (parts : List ℕ) → Gate → Type 0
+sub_fits t slots parts g = (((first g) < 2 ^ 32) × IsTrue (is_wire parts (first g))) × ((((second g) < 2 ^ 32) × IsTrue (is_wire parts (second g))) × (Sub (first g) (second g) ≡ g))
+
+sub_from : (t slots : ℕ) (parts : List ℕ) (g : Gate) → Stands t slots parts 3 g → sub_fits t slots parts g
+sub_from t slots parts (Sub a b) h = let v = both_true (is_wire parts a) (is_wire parts b) h.1 in ((h.2.0, v.0), ((h.2.1, v.1), refl))
+sub_from t slots parts g h = absurd (omega (arith, h.0))
+
+sub_law : (t slots : ℕ) (parts : List ℕ) → Law (sub parts) operands_text (Stands t slots parts 3)
+unfolding sub
+sub_law t slots parts =
+    same_law (sub parts) (λ g. to_be_bytes w32 (first g) ++ (to_be_bytes w32 (second g) ++ [])) operands_text (sub_fits t slots parts) (Stands t slots parts 3)
+    (then_law (wire parts) (λ a. wire parts then λ b. Value (Sub a b)) (to_be_bytes w32) (λ g. to_be_bytes w32 (second g) ++ []) (λ a. ((a < 2 ^ 32) × IsTrue (is_wire parts a))) (λ a g. (((second g) < 2 ^ 32) × IsTrue (is_wire parts (second g))) × (Sub a (second g) ≡ g)) first (wire_law parts)
+    (λ a _. then_law (wire parts) (λ b. Value (Sub a b)) (to_be_bytes w32) (λ _. []) (λ b. ((b < 2 ^ 32) × IsTrue (is_wire parts b))) (λ b g. Sub a b ≡ g) second (wire_law parts) (λ b _. value_law (Sub a b)) (λ b g e. ap second (sym e)))
+    (λ a g h. ap first (sym h.1)))
+    (λ g h. subst (λ (k : Gate). to_be_bytes w32 (first k) ++ (to_be_bytes w32 (second k) ++ []) ≡ operands_text k) h.1.1 (ap (λ s. to_be_bytes w32 (first g) ++ s) (append-nil (to_be_bytes w32 (second g)))))
+    (λ g h. subst (Stands t slots parts 3) h.1.1 (refl, and_true _ _ h.0.1 h.1.0.1, (h.0.0, h.1.0.0)))
+    (sub_from t slots parts)
 
 abbrev mul_fits : (t slots : ℕ) (parts : List ℕ) → Gate → Type 0
 mul_fits t slots parts g = (((first g) < 2 ^ 32) × IsTrue (has_parts 2 parts (first g))) × ((((second g) < 2 ^ 32) × IsTrue (has_parts 2 parts (second g))) × (Mul (first g) (second g) ≡ g))
@@ -179,8 +202,8 @@ either : (a b : Bool) → (a || b) ≡ true → (a ≡ true) ⊎ (b ≡ true)
 either true b e = inl refl
 either false b e = inr e
 
-tag_cases : (P : ℕ → Type 0) → P 1 → P 2 → P 4 → P 5 → P 6 → P 7 → P 8 → (tag : ℕ) → IsTrue (is_tag tag) → P tag
-tag_cases P p1 p2 p4 p5 p6 p7 p8 tag h =
+tag_cases : (P : ℕ → Type 0) → P 1 → P 2 → P 3 → P 4 → P 5 → P 6 → P 7 → P 8 → (version tag : ℕ) → IsTrue (is_tag version tag) → P tag
+tag_cases P p1 p2 p3 p4 p5 p6 p7 p8 version tag h =
     let is : (n : ℕ) → P n → eqb tag n ≡ true → P tag = λ n p e. subst P (sym (eqb-true tag n e)) p in
     elim (either _ (eqb tag 8) h) [
       | inr e ↦ is 8 p8 e
@@ -192,9 +215,12 @@ tag_cases P p1 p2 p4 p5 p6 p7 p8 tag h =
             | inr e ↦ is 5 p5 e
             | inl h4 ↦ elim (either _ (eqb tag 4) h4) [
               | inr e ↦ is 4 p4 e
-              | inl h2 ↦ elim (either _ (eqb tag 2) h2) [
-                | inr e ↦ is 2 p2 e
-                | inl e ↦ is 1 p1 e
+              | inl h3 ↦ elim (either _ (eqb tag 3 && eqb version 2) h3) [
+                | inr e ↦ is 3 p3 (both_true (eqb tag 3) (eqb version 2) e).0
+                | inl h2 ↦ elim (either _ (eqb tag 2) h2) [
+                  | inr e ↦ is 2 p2 e
+                  | inl e ↦ is 1 p1 e
+                ]
               ]
             ]
           ]
@@ -202,30 +228,60 @@ tag_cases P p1 p2 p4 p5 p6 p7 p8 tag h =
       ]
     ]
 
-operands_law : (t slots : ℕ) (parts : List ℕ) (tag : ℕ) → IsTrue (is_tag tag) → Law (operands t slots parts tag) operands_text (Stands t slots parts tag)
+operands_law : (t slots : ℕ) (parts : List ℕ) (version tag : ℕ) → IsTrue (is_tag version tag) → Law (operands t slots parts tag) operands_text (Stands t slots parts tag)
 operands_law t slots parts =
-    tag_cases (λ tag. Law (operands t slots parts tag) operands_text (Stands t slots parts tag)) (neg_law t slots parts) (add_law t slots parts) (mul_law t slots parts) (relin_law t slots parts)
+    tag_cases (λ tag. Law (operands t slots parts tag) operands_text (Stands t slots parts tag)) (neg_law t slots parts) (add_law t slots parts) (sub_law t slots parts) (mul_law t slots parts) (relin_law t slots parts)
     (scale_law t slots parts) (shift_law t slots parts) (turn_law t slots parts)
 
+-- a file of this version may have the gate
+abbrev pub is_of : ℕ → Gate → Bool
+is_of version g = is_tag version (tag_of g)
+
 -- a gate that may stand there
-abbrev pub MayStand : ℕ → ℕ → List ℕ → Gate → Type 0
-MayStand t slots parts g = IsTrue (is_gate t slots parts g) × IsNarrow g
+abbrev pub MayStand : ℕ → ℕ → ℕ → List ℕ → Gate → Type 0
+MayStand version t slots parts g = (IsTrue (is_gate t slots parts g) × IsNarrow g) × IsTrue (is_of version g)
 
-tag_is_tag : (g : Gate) → IsTrue (is_tag (tag_of g)) × (tag_of g < 2 ^ 8)
-tag_is_tag (Neg a) = (refl, omega arith)
-tag_is_tag (Add a b) = (refl, omega arith)
-tag_is_tag (Mul a b) = (refl, omega arith)
-tag_is_tag (Relin a) = (refl, omega arith)
-tag_is_tag (Scale c a) = (refl, omega arith)
-tag_is_tag (Shift c a) = (refl, omega arith)
-tag_is_tag (Turn r a) = (refl, omega arith)
+tag_small : (g : Gate) → tag_of g < 2 ^ 8
+tag_small (Neg a) = omega arith
+tag_small (Add a b) = omega arith
+tag_small (Sub a b) = omega arith
+tag_small (Mul a b) = omega arith
+tag_small (Relin a) = omega arith
+tag_small (Scale c a) = omega arith
+tag_small (Shift c a) = omega arith
+tag_small (Turn r a) = omega arith
 
-pub gate_law : (t slots : ℕ) (parts : List ℕ) → Law (gate t slots parts) gate_text (MayStand t slots parts)
+pub gate_law : (version t slots : ℕ) (parts : List ℕ) → Law (gate version t slots parts) gate_text (MayStand version t slots parts)
 unfolding gate
-gate_law t slots parts =
-    same_law (gate t slots parts) gate_text gate_text (λ g. ((tag_of g < 2 ^ 8) × IsTrue (is_tag (tag_of g))) × Stands t slots parts (tag_of g) g) (MayStand t slots parts)
-    (then_law (number w8 is_tag) (operands t slots parts) (to_be_bytes w8) operands_text (λ tag. (tag < 2 ^ 8) × IsTrue (is_tag tag)) (Stands t slots parts) tag_of
-    (number_law w8 (2 ^ 8) wide8 is_tag) (λ tag h. operands_law t slots parts tag h.1) (λ tag g h. h.0))
+gate_law version t slots parts =
+    same_law (gate version t slots parts) gate_text gate_text (λ g. ((tag_of g < 2 ^ 8) × IsTrue (is_of version g)) × Stands t slots parts (tag_of g) g) (MayStand version t slots parts)
+    (then_law (number w8 (is_tag version)) (operands t slots parts) (to_be_bytes w8) operands_text (λ tag. (tag < 2 ^ 8) × IsTrue (is_tag version tag)) (Stands t slots parts) tag_of
+    (number_law w8 (2 ^ 8) wide8 (is_tag version)) (λ tag h. operands_law t slots parts version tag h.1) (λ tag g h. h.0))
     (λ g h. refl)
-    (λ g h. (h.1.1, h.1.2))
-    (λ g h. let tag = tag_is_tag g in ((tag.1, tag.0), (refl, h.0, h.1)))
+    (λ g h. ((h.1.1, h.1.2), h.0.1))
+    (λ g h. ((tag_small g, h.1), (refl, h.0.0, h.0.1)))
+
+-- ---- a file of the gates' own version may have them
+
+own_sub : (version : ℕ) → version ≡ 2 → IsTrue (is_tag version 3)
+own_sub version e = rw e refl
+
+pub of_version : (version : ℕ) (gates : List Gate) → (list_any is_sub gates ≡ true → version ≡ 2) → IsTrue (list_all (is_of version) gates)
+of_version version [] h = refl
+of_version version (g ∷ gates) h = and_true (is_of version g) (list_all (is_of version) gates) (by g (λ e. h (or_left (is_sub g) (list_any is_sub gates) e))) (of_version version gates (λ e. h (or_right (is_sub g) (list_any is_sub gates) e)))
+  where
+    by : (g : Gate) → (is_sub g ≡ true → version ≡ 2) → IsTrue (is_of version g)
+    by (Neg a) h = refl
+    by (Add a b) h = refl
+    by (Sub a b) h = own_sub version (h refl)
+    by (Mul a b) h = refl
+    by (Relin a) h = refl
+    by (Scale c a) h = refl
+    by (Shift c a) h = refl
+    by (Turn r a) h = refl
+
+version_two : (some : Bool) → some ≡ true → ◌≡◌ {A = ℕ} (cond some 2 1) 2
+version_two some e = rw e refl
+
+pub own_version : (gates : List Gate) → IsTrue (list_all (is_of (version_of gates)) gates)
+own_version gates = of_version (version_of gates) gates (version_two (list_any is_sub gates))

@@ -1,5 +1,5 @@
 -- What bounds and constants are small enough for.
-use Rattle.std.proofs.Common.{◌≡◌, ℕ, ◌≤◌, ◌<◌, ◌-◌, ◌^◌, length, Bool, true, ◌&&◌, List, [], ◌∷◌, refl, sym, subst, arith, inl, inr, ltb, leb}
+use Rattle.std.proofs.Common.{◌≡◌, ℕ, ◌≤◌, ◌<◌, ◌-◌, ◌^◌, length, true, ◌&&◌, List, [], ◌∷◌, refl, sym, subst, arith, inl, inr, ltb, leb}
 use Rattle.std.specs.Prelude.{IsTrue}
 use Rattle.std.specs.List.{list_all}
 use Rattle.std.proofs.lemmas.Bool.{leb-true, lt-ltb}
@@ -10,7 +10,7 @@ use Rattle.heco_noise.specs.Rows.{IsQuiet}
 use Rattle.heco_fields.specs.Runs.{all_along}
 use Rattle.heco_fields.proofs.Bools.{both_true, and_true}
 use Rattle.heco_circuit.specs.declared.gate.Gate.{Gate}
-use Rattle.heco_circuit.specs.declared.gate.Gate.TheVariants.{Neg, Add, Mul, Relin, Scale, Shift, Turn}
+use Rattle.heco_circuit.specs.declared.gate.Gate.TheVariants.{Neg, Add, Sub, Mul, Relin, Scale, Shift, Turn}
 use Rattle.heco_circuit.specs.Validity.{is_between, is_wire, is_gate, with_gate}
 use Rattle.heco_circuit.specs.Plans.{Plan, input_parts, are_inputs, are_gates, are_outputs, is_formed}
 use Rattle.heco_circuit.specs.Bounds.{fresh_of, is_below}
@@ -39,6 +39,7 @@ gate_below : (t slots : ℕ) (parts : List ℕ) → 1 ≤ t → (g : Gate) → I
 gate_below t slots parts pos (Scale c a) h = below t c pos (both_true (is_between 1 (t - 1) c) (is_wire parts a) h).0
 gate_below t slots parts pos (Neg a) h = refl
 gate_below t slots parts pos (Add a b) h = refl
+gate_below t slots parts pos (Sub a b) h = refl
 gate_below t slots parts pos (Mul a b) h = refl
 gate_below t slots parts pos (Relin a) h = refl
 gate_below t slots parts pos (Shift c a) h = refl

@@ -1,11 +1,11 @@
 -- The written bound of the noise of each wire, a product and its relinearisation as gates of their own.
-use Rattle.std.specs.Prelude.{◌≡◌, ℕ, ◌+◌, Bool, true, List, [], ◌∷◌, ◌++◌, Option, Some, None, slice_index, if◌then◌else◌, nat_lt}
+use Rattle.std.specs.Prelude.{ℕ, ◌+◌, Bool, true, List, [], ◌∷◌, ◌++◌, Option, Some, None, slice_index, if◌then◌else◌, nat_lt}
 use Rattle.heco_nums.specs.Presets.{degree_of, modulus_of, weight_of, error_of}
 use Rattle.heco_noise.specs.Rows.{passes}
 use Rattle.heco_noise.specs.Rows as rows
 use Rattle.heco_fields.specs.Runs.{along}
 use Rattle.heco_circuit.specs.declared.gate.Gate.{Gate}
-use Rattle.heco_circuit.specs.declared.gate.Gate.TheVariants.{Neg, Add, Mul, Relin, Scale, Shift, Turn}
+use Rattle.heco_circuit.specs.declared.gate.Gate.TheVariants.{Neg, Add, Sub, Mul, Relin, Scale, Shift, Turn}
 
 -- of a fresh encryption under the preset of this number
 abbrev pub fresh_of : ℕ → ℕ
@@ -20,6 +20,7 @@ fresh_bounds id (s ∷ inputs) = fresh_of id ∷ fresh_bounds id inputs
 abbrev pub bound_of : ℕ → List ℕ → Gate → ℕ
 bound_of id bounds (Neg a) = slice_index bounds a
 bound_of id bounds (Add a b) = rows.added (slice_index bounds a) (slice_index bounds b)
+bound_of id bounds (Sub a b) = rows.added (slice_index bounds a) (slice_index bounds b)
 bound_of id bounds (Mul a b) = rows.multiplied (degree_of id) (modulus_of id) (weight_of id) (slice_index bounds a) (slice_index bounds b)
 bound_of id bounds (Relin a) = rows.turned (modulus_of id) (degree_of id) (error_of id) (slice_index bounds a)
 bound_of id bounds (Scale c a) = rows.scaled_by (modulus_of id) c (slice_index bounds a)

@@ -1,16 +1,18 @@
 -- The fields of a circuit file.
-use Rattle.std.specs.Prelude.{ℕ, ◌-◌, ◌^◌, Bool, ◌&&◌, ◌||◌, ◌==◌, not, List, [], ◌∷◌, ◌++◌, length, if◌then◌else◌, codes}
-use Rattle.std.specs.List.{list_any, flat_map}
+use Rattle.std.specs.Prelude.{ℕ, ◌-◌, ◌^◌, Bool, ◌&&◌, ◌==◌, List, [], ◌++◌, length, if◌then◌else◌, codes}
+use Rattle.std.specs.List.{flat_map}
 use Rattle.std.specs.Int.{w8, w16, w32, to_be_bytes}
 use Rattle.heco_nums.specs.Presets.{modulus_of, slots_of}
 use Rattle.heco_nums.specs.declared.shape.Shape.{Shape}
-use Rattle.heco_fields.specs.Formats.{Format, Value, Field, number, within, header, header_text, many, ◌>>=◌}
+use Rattle.heco_fields.specs.Formats.{Format, Value, Field, number, within, versioned, versioned_text, many, ◌>>=◌}
 use Rattle.heco_fields.specs.Runs.{along, stays}
+use Rattle.heco_fields.specs.declared.header.Header.{Header}
 use Rattle.heco_circuit.specs.declared.gate.Cell.{Cell}
 use Rattle.heco_circuit.specs.declared.gate.Cell.TheVariants.{Number, Slot}
 use Rattle.heco_circuit.specs.declared.gate.Gate.{Gate}
 use Rattle.heco_circuit.specs.declared.gate.Output.{Output}
-use Rattle.heco_circuit.specs.Validity.{with_gate}
+use Rattle.heco_circuit.specs.Validity.{is_between, with_gate}
+use Rattle.heco_circuit.specs.Versions.{newest, version_of}
 use Rattle.heco_circuit.specs.GateFormat.{wire_of, gate, gate_text}
 use Rattle.heco_circuit.specs.Plans.{Plan, is_new, push, input_parts}
 
@@ -54,14 +56,18 @@ inputs id = do
   count ← within w16 0 256
   many (input (slots_of id)) push count []
 
-unfoldable pub gates : ℕ → List ℕ → Format (List Gate)
-gates id parts = do
+unfoldable pub gates : ℕ → ℕ → List ℕ → Format (List Gate)
+gates version id parts = do
   count ← within w32 0 (2 ^ 25 - 1)
-  many (gate (modulus_of id) (slots_of id)) with_gate count parts
+  many (gate version (modulus_of id) (slots_of id)) with_gate count parts
 
-unfoldable pub outputs : ℕ → List Shape → List ℕ → Format (List Output)
-outputs id inputs parts = do
-  count ← within w16 0 (256 - length inputs)
+-- here the gates are known: the version is theirs, or this field is broken
+abbrev pub is_output_count : ℕ → List Shape → List Gate → ℕ → Bool
+is_output_count version inputs gates count = version == version_of gates && is_between 0 (256 - length inputs) count
+
+unfoldable pub outputs : ℕ → ℕ → List Shape → List Gate → List ℕ → Format (List Output)
+outputs version id inputs gates parts = do
+  count ← number w16 (is_output_count version inputs gates)
   many (output (modulus_of id) (slots_of id) inputs parts) push count []
 
 abbrev pub plan : ℕ → List Shape → List Gate → List Output → Plan
@@ -69,11 +75,11 @@ plan id i g o = record { preset = id; inputs = i; gates = g; outputs = o }
 
 unfoldable pub circuit : Format Plan
 circuit = do
-  id ← header (codes "HCIR")
-  i ← inputs id
-  g ← gates id (input_parts i)
-  o ← outputs id i (along with_gate (input_parts i) g)
-  Value (plan id i g o)
+  h ← versioned newest (codes "HCIR")
+  i ← inputs h.preset
+  g ← gates h.version h.preset (input_parts i)
+  o ← outputs h.version h.preset i g (along with_gate (input_parts i) g)
+  Value (plan h.preset i g o)
 
 abbrev pub name_text : List ℕ → List ℕ
 name_text text = to_be_bytes w32 (length text) ++ text
@@ -98,6 +104,9 @@ gates_text xs = to_be_bytes w32 (length xs) ++ flat_map gate_text xs
 abbrev pub outputs_text : List Output → List ℕ
 outputs_text xs = to_be_bytes w16 (length xs) ++ flat_map output_text xs
 
+abbrev pub header_of : Plan → Header
+header_of p = record { version = version_of p.gates; preset = p.preset }
+
 -- the one spelling of a circuit
 abbrev pub circuit_text : Plan → List ℕ
-circuit_text p = header_text (codes "HCIR") p.preset ++ (inputs_text p.inputs ++ (gates_text p.gates ++ outputs_text p.outputs))
+circuit_text p = versioned_text (codes "HCIR") (header_of p) ++ (inputs_text p.inputs ++ (gates_text p.gates ++ outputs_text p.outputs))

@@ -1,4 +1,5 @@
 pub mod Validity
+pub mod Versions
 pub mod Bounds
 pub mod Plans
 pub mod GateFormat

@@ -1,15 +1,18 @@
-ghost use Rattle.std.specs.Prelude.{◌≡◌, ◌≤◌, ◌^◌, ◌<◌, length, IfOk, OnOk, codes, IsSome};
+ghost use Rattle.std.specs.Prelude.{◌≡◌, ◌≤◌, ◌^◌, ◌<◌, length, IfErr, IfOk, OnOk, codes, IsSome};
+ghost use Rattle.std.specs.Int.{w16};
+ghost use Rattle.heco_fields.specs.Formats.{number};
 ghost use Rattle.heco_nums.specs.Presets.{modulus_of, slots_of};
-ghost use Rattle.heco_fields.specs.Readings.{Gives, reading};
+ghost use Rattle.heco_fields.specs.Readings.{Gives, IsAtField, reading};
 ghost use Rattle.heco_fields.specs.Runs.{along};
 ghost use Rattle.heco_circuit.specs.Validity.{with_gate};
 ghost use Rattle.heco_circuit.specs.Plans.{input_parts};
-ghost use Rattle.heco_circuit.specs.CircuitFormat.{inputs, gates, outputs, plan, circuit};
+ghost use Rattle.heco_circuit.specs.CircuitFormat.{inputs, gates, is_output_count, outputs, plan, circuit};
 
 use crate::gate::{Gate, Output};
 use crate::read_gates::gates_at;
 use crate::read_ports::{inputs_at, outputs_at};
-use heco_fields::{Fault, header_at, u16_within, u32_within};
+use crate::version::{NEWEST, version_of};
+use heco_fields::{Fault, broken, u16_within, u32_within, versioned_at};
 use heco_nums::{List, Memory, Preset, Shape};
 use std::alloc::Global;
 
@@ -50,29 +53,58 @@ fn input_parts(alloc: Global, inputs: &[Shape]) -> Result<List<u8>, Memory>
 #[tactic(auto, using(heco_fields::proofs::Steps::reading_then), unfolding(crate::specs::CircuitFormat::gates))]
 fn all_gates_at<'a>(
     alloc: Global,
+    version: u8,
     preset: &Preset,
     parts: List<u8>,
     bytes: &'a [u8],
 ) -> Result<((List<Gate>, List<u8>), &'a [u8]), Fault>
-    ensures gates { Gives (λ x. (x.0.0, x.1.now)) result (reading (gates preset.now.id parts) bytes.now) }
+    ensures gates { Gives (λ x. (x.0.0, x.1.now)) result (reading (gates version preset.now.id parts) bytes.now) }
     ensures parts { IfOk result (λ x. x.0.1 ≡ along with_gate parts x.0.0) }
 {
     let (count, rest) = u32_within(bytes, 0, (1 << 25) - 1)?;
-    gates_at(alloc, preset.t, preset.slots as u16, parts, count, rest)
+    gates_at(
+        alloc,
+        version,
+        preset.t,
+        preset.slots as u16,
+        parts,
+        count,
+        rest,
+    )
+}
+
+// The number of outputs, which is broken where the version isn't that of the gates.
+#[tactic(auto, unfolding(heco_fields::specs::Readings::reading))]
+fn output_count_at<'a>(
+    version: u8,
+    inputs: &[Shape],
+    gates: &[Gate],
+    bytes: &'a [u8],
+) -> Result<(u16, &'a [u8]), Fault>
+    requires { length inputs.now ≤ 256 }
+    ensures read { Gives (λ x. (x.0, x.1.now)) result (reading (number w16 (is_output_count version inputs.now gates.now)) bytes.now) }
+    ensures field { IfErr result IsAtField }
+{
+    if version != version_of(gates) {
+        return Err(broken(bytes));
+    }
+    u16_within(bytes, 0, 256 - inputs.len() as u16)
 }
 
 #[tactic(auto, using(heco_fields::proofs::Steps::reading_then), unfolding(crate::specs::CircuitFormat::outputs))]
 fn all_outputs_at<'a>(
     alloc: Global,
+    version: u8,
     preset: &Preset,
     inputs: &[Shape],
+    gates: &[Gate],
     parts: &[u8],
     bytes: &'a [u8],
 ) -> Result<(List<Output>, &'a [u8]), Fault>
     requires { length inputs.now ≤ 256 }
-    ensures { Gives (λ x. (x.0, x.1.now)) result (reading (outputs preset.now.id inputs.now parts.now) bytes.now) }
+    ensures { Gives (λ x. (x.0, x.1.now)) result (reading (outputs version preset.now.id inputs.now gates.now parts.now) bytes.now) }
 {
-    let (count, rest) = u16_within(bytes, 0, 256 - inputs.len() as u16)?;
+    let (count, rest) = output_count_at(version, inputs, gates, bytes)?;
     outputs_at(
         alloc,
         preset.t,
@@ -88,15 +120,17 @@ fn all_outputs_at<'a>(
 pub fn draft_at(alloc: Global, bytes: &[u8]) -> Result<(Draft, &[u8]), Fault>
     ensures { Gives (λ x. (plan x.0.preset.id x.0.inputs x.0.gates x.0.outputs, x.1.now)) result (reading circuit bytes.now) }
 {
-    let (id, rest) = header_at(bytes, b"HCIR")?;
-    let preset = preset_of(id);
+    let (header, rest) = versioned_at(bytes, b"HCIR", NEWEST)?;
+    let preset = preset_of(header.preset);
     let (inputs, rest) = all_inputs_at(alloc, &preset, rest)?;
     let parts = input_parts(alloc, inputs.as_slice())?;
-    let ((gates, parts), rest) = all_gates_at(alloc, &preset, parts, rest)?;
+    let ((gates, parts), rest) = all_gates_at(alloc, header.version, &preset, parts, rest)?;
     let (outputs, rest) = all_outputs_at(
         alloc,
+        header.version,
         &preset,
         inputs.as_slice(),
+        gates.as_slice(),
         parts.as_slice(),
         rest,
     )?;

@@ -13,6 +13,7 @@ mod read_gate;
 mod read_gates;
 mod read_ports;
 mod reading;
+mod version;
 mod writing;
 
 pub use circuit::Circuit;

@@ -25,7 +25,7 @@ pub fn bound_of(p: &Preset, bounds: &[u128], gate: Gate) -> u128
 {
     match gate {
         Gate::Neg { a } => bound_at(bounds, a),
-        Gate::Add { a, b } => added(bound_at(bounds, a), bound_at(bounds, b)),
+        Gate::Add { a, b } | Gate::Sub { a, b } => added(bound_at(bounds, a), bound_at(bounds, b)),
         Gate::Mul { a, b } => multiplied(p, bound_at(bounds, a), bound_at(bounds, b)),
         Gate::Relin { a } | Gate::Turn { r: _, a } => turned(p, bound_at(bounds, a)),
         Gate::Scale { c, a } => scaled_by(p, c, bound_at(bounds, a)),

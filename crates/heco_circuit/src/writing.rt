@@ -6,7 +6,8 @@ ghost use Rattle.heco_circuit.specs.CircuitFormat.{name_text, input_text, cell_t
 
 use crate::circuit::Circuit;
 use crate::gate::{Cell, Gate, Output};
-use heco_fields::{put_header, put_u16, put_u32};
+use crate::version::version_of;
+use heco_fields::{Header, put_u16, put_u32, put_versioned};
 use heco_nums::{Bytes, Memory, Shape};
 use std::alloc::Global;
 
@@ -52,6 +53,7 @@ fn put_gate(out: &mut Bytes, gate: Gate) -> Result<(), Memory>
     match gate {
         Gate::Neg { a } => put_tag_and(out, 1, a),
         Gate::Add { a, b } => put_two(out, 2, a, b),
+        Gate::Sub { a, b } => put_two(out, 3, a, b),
         Gate::Mul { a, b } => put_two(out, 4, a, b),
         Gate::Relin { a } => put_tag_and(out, 5, a),
         Gate::Scale { c, a } => put_two(out, 6, c, a),
@@ -124,7 +126,11 @@ pub fn write(alloc: Global, c: &Circuit) -> Result<Bytes, Memory>
     ensures { IfOk result (λ bytes. bytes ≡ circuit_text c.now) }
 {
     let mut out = Bytes::new(alloc);
-    put_header(&mut out, b"HCIR", c.preset().id)?;
+    let header = Header {
+        version: version_of(c.gates().as_slice()),
+        preset: c.preset().id,
+    };
+    put_versioned(&mut out, b"HCIR", header)?;
     put_inputs(&mut out, c.inputs().as_slice())?;
     put_gates(&mut out, c.gates().as_slice())?;
     put_outputs(&mut out, c.outputs().as_slice())?;

@@ -10,7 +10,7 @@ use Rattle.heco_types.specs.Typing.{IsTyped}
 use Rattle.heco_execution.specs.Laws.{source_terms, mapped}
 use Rattle.heco_execution.specs.Outcomes.{Outcome}
 use Rattle.heco_written.specs.ScalarTerm.{ScalarTerm}
-use Rattle.heco_written.specs.WrittenForm.{written}
+use Rattle.heco_written.specs.WrittenForm.{vectors_of, written}
 use Rattle.heco_ir.specs.declared.home.Home.{Home}
 use Rattle.heco_ir.specs.declared.scalar.SNode.{SNode}
 use Rattle.heco_ir.specs.declared.vector.VNode.{VNode}
@@ -18,7 +18,7 @@ use Rattle.heco_ir.specs.Ranges.{AllFit, gates_of_nodes}
 use Rattle.heco_ir.specs.Terms.{terms_at}
 use Rattle.heco_ir.specs.Unrolled.{AllElementsBelow, operations, root_terms}
 use Rattle.heco_ir.specs.Used.{EachOnce}
-use Rattle.heco_batch.specs.Roots.{homes_from, vectors_of, written_homes, AllHomesFit}
+use Rattle.heco_batch.specs.Roots.{homes_from, written_homes, AllHomesFit}
 use Rattle.heco_unroll.specs.Unrolling.{element_terms, HaveLengths}
 use Rattle.heco_unroll.proofs.Shapes.{outputs_have_their_lengths}
 use Rattle.heco_place.specs.Fitting.{AreHomes}

@@ -6,20 +6,21 @@ use Rattle.std.specs.Int.{w16, w32, to_be_bytes}
 use Rattle.std.proofs.lemmas.List.{length-map}
 use Rattle.std.proofs.lemmas.List.Sums.{sum_by-cons}
 use Rattle.heco_nums.specs.declared.shape.Shape.{Shape}
-use Rattle.heco_fields.specs.Formats.{header_text}
+use Rattle.heco_fields.specs.Formats.{versioned_text}
 use Rattle.heco_circuit.specs.declared.gate.Cell.{Cell}
 use Rattle.heco_circuit.specs.declared.gate.Cell.TheVariants.{Number, Slot}
 use Rattle.heco_circuit.specs.declared.gate.Gate.{Gate}
-use Rattle.heco_circuit.specs.declared.gate.Gate.TheVariants.{Neg, Add, Mul, Relin, Scale, Shift, Turn}
+use Rattle.heco_circuit.specs.declared.gate.Gate.TheVariants.{Neg, Add, Sub, Mul, Relin, Scale, Shift, Turn}
 use Rattle.heco_circuit.specs.declared.gate.Output.{Output}
 use Rattle.heco_circuit.specs.GateFormat.{gate_text}
-use Rattle.heco_circuit.specs.CircuitFormat.{name_text, input_text, cell_text, output_text, inputs_text, gates_text, outputs_text, circuit_text}
+use Rattle.heco_circuit.specs.CircuitFormat.{header_of, name_text, input_text, cell_text, output_text, inputs_text, gates_text, outputs_text, circuit_text}
 use Rattle.heco_circuit.specs.Plans.{Plan, shape_of}
 use Rattle.heco_compile.proofs.Names.{shape_bytes}
 
 gate_short : (g : Gate) → length (gate_text g) ≤ 9
 gate_short (Neg a) = omega arith
 gate_short (Add a b) = omega arith
+gate_short (Sub a b) = omega arith
 gate_short (Mul a b) = omega arith
 gate_short (Relin a) = omega arith
 gate_short (Scale c a) = omega arith
@@ -71,17 +72,17 @@ outputs_short (o ∷ os) =
       sum_by-cons (λ (s : Shape). s.len) (shape_of o) (map shape_of os),
     )
 
-whole : (c : Plan) → length (circuit_text c) ≡ length (header_text (codes "HCIR") c.preset) + (length (inputs_text c.inputs) + (length (gates_text c.gates) + length (outputs_text c.outputs)))
+whole : (c : Plan) → length (circuit_text c) ≡ length (versioned_text (codes "HCIR") (header_of c)) + (length (inputs_text c.inputs) + (length (gates_text c.gates) + length (outputs_text c.outputs)))
 whole c =
-    length-append (header_text (codes "HCIR") c.preset) (inputs_text c.inputs ++ (gates_text c.gates ++ outputs_text c.outputs))
-    ∙ ap (λ n. length (header_text (codes "HCIR") c.preset) + n) (length-append (inputs_text c.inputs) (gates_text c.gates ++ outputs_text c.outputs)
+    length-append (versioned_text (codes "HCIR") (header_of c)) (inputs_text c.inputs ++ (gates_text c.gates ++ outputs_text c.outputs))
+    ∙ ap (λ n. length (versioned_text (codes "HCIR") (header_of c)) + n) (length-append (inputs_text c.inputs) (gates_text c.gates ++ outputs_text c.outputs)
     ∙ ap (λ n. length (inputs_text c.inputs) + n) (length-append (gates_text c.gates) (outputs_text c.outputs)))
 
 -- a circuit of so many gates, parameters and elements, whose names have 2^20 bytes together
 pub file_short : (c : Plan) (outputs : List Shape) → map shape_of c.outputs ≡ outputs → length c.gates ≤ 20447232 → length c.inputs + length outputs ≤ 256
     → shape_bytes c.inputs + shape_bytes outputs ≤ 2 ^ 20 → sum_by (λ s. s.len) outputs ≤ 2 ^ 20 → length (circuit_text c) < 2 ^ 28
 file_short c outputs are gates ports names elements =
-    let head : length (header_text (codes "HCIR") c.preset) ≡ 6 = refl in
+    let head : length (versioned_text (codes "HCIR") (header_of c)) ≡ 6 = refl in
     let i : length (inputs_text c.inputs) ≡ 2 + length (flat_map input_text c.inputs) = length-append (to_be_bytes w16 (length c.inputs)) (flat_map input_text c.inputs) in
     let g : length (gates_text c.gates) ≡ 4 + length (flat_map gate_text c.gates) = length-append (to_be_bytes w32 (length c.gates)) (flat_map gate_text c.gates) in
     let o : length (outputs_text c.outputs) ≡ 2 + length (flat_map output_text c.outputs) = length-append (to_be_bytes w16 (length c.outputs)) (flat_map output_text c.outputs) in

@@ -9,7 +9,7 @@ use Rattle.heco_lex.specs.declared.token.Token.{Token}
 use Rattle.heco_lex.specs.declared.token.TokenKind.{TokenKind}
 use Rattle.heco_lex.specs.declared.token.TokenKind.TheVariants as k
 use Rattle.heco_lex.proofs.Spans.{spans}
-use Rattle.heco_syntax.specs.Kept.{Kept, kept_ident, kept_param, kept_source, kept_stmt}
+use Rattle.heco_syntax.specs.Kept.{Kept, kept_ident, kept_def, kept_param, kept_source, kept_stmt}
 use Rattle.heco_syntax.specs.Lexemes.{lexemes_of, text_of}
 use Rattle.heco_syntax.specs.Limits.{levels, depth}
 use Rattle.heco_syntax.specs.declared.lexeme.Lexeme.{Lexeme}
@@ -84,7 +84,8 @@ source_few : (x : Source) → port_bytes x.ports ≤ kept_bytes (kept_source x)
 source_few x =
     omega (
       arith,
-      kept_bytes-append (kept_ident x.params) (kept_ident x.name ++ (flat_map kept_param x.ports ++ flat_map kept_stmt x.body)),
+      kept_bytes-append (kept_ident x.params) (flat_map kept_def x.defs ++ (kept_ident x.name ++ (flat_map kept_param x.ports ++ flat_map kept_stmt x.body))),
+      kept_bytes-append (flat_map kept_def x.defs) (kept_ident x.name ++ (flat_map kept_param x.ports ++ flat_map kept_stmt x.body)),
       kept_bytes-append (kept_ident x.name) (flat_map kept_param x.ports ++ flat_map kept_stmt x.body),
       kept_bytes-append (flat_map kept_param x.ports) (flat_map kept_stmt x.body),
       ports_few x.ports,

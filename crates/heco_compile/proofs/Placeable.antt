@@ -9,7 +9,7 @@ use Rattle.heco_nums.specs.declared.shape.Shape.{Shape}
 use Rattle.heco_types.specs.Presets.{id_named}
 use Rattle.heco_types.proofs.PresetWords.{id_named-is}
 use Rattle.heco_written.specs.VectorTerm.{Input}
-use Rattle.heco_written.specs.WrittenForm.{Home as WrittenHome, Known, At as AtPlace, places}
+use Rattle.heco_written.specs.WrittenForm.{Home as WrittenHome, Known, At as AtPlace, places, vectors_of}
 use Rattle.heco_ir.specs.declared.home.Home.{Home}
 use Rattle.heco_ir.specs.declared.home.Home.TheVariants.{Number as NumberHome, At}
 use Rattle.heco_ir.specs.declared.scalar.SNode.{SNode}
@@ -19,7 +19,7 @@ use Rattle.heco_ir.specs.Ranges as ranges
 use Rattle.heco_ir.specs.Terms.{vector_terms, terms_at}
 use Rattle.heco_ir.specs.Unrolled.{AllElementsBelow}
 use Rattle.heco_batch.specs.Roots as batched
-use Rattle.heco_batch.specs.Roots.{homes_from, vectors_of}
+use Rattle.heco_batch.specs.Roots.{homes_from}
 use Rattle.heco_place.specs.Fitting.{Fits, AllFit, HomeFits, named, AreHomes}
 
 -- the preset of a name has the number that the name has

@@ -6,7 +6,7 @@ use Rattle.std.proofs.lemmas.List.{length-map}
 use Rattle.std.proofs.lemmas.List.Elements.{All-cons, All-head, All-tail}
 use Rattle.heco_nums.specs.Words.{is_word, starts_word}
 use Rattle.heco_nums.specs.declared.shape.Shape.{Shape}
-use Rattle.heco_syntax.specs.Kept.{Kept, AllNamed, kept_ident, kept_param, kept_stmt}
+use Rattle.heco_syntax.specs.Kept.{Kept, AllNamed, kept_ident, kept_def, kept_param, kept_stmt}
 use Rattle.heco_syntax.specs.declared.tree.Param.{Param}
 use Rattle.heco_syntax.specs.declared.tree.Source.{Source}
 use Rattle.heco_types.specs.Parameters.{param_limit}
@@ -142,7 +142,8 @@ pub typed_ports : (x : Source) → IsTyped x → ArePorts (slots_named x.params.
 typed_ports x t =
     let names : All IsName x.ports = names_ok x.ports (named_left (flat_map kept_param x.ports) (flat_map kept_stmt x.body)
     (named_right (kept_ident x.name) (flat_map kept_param x.ports ++ flat_map kept_stmt x.body)
-    (named_right (kept_ident x.params) (kept_ident x.name ++ (flat_map kept_param x.ports ++ flat_map kept_stmt x.body)) t.formed.order.named))) in record {
+    (named_right (flat_map kept_def x.defs) (kept_ident x.name ++ (flat_map kept_param x.ports ++ flat_map kept_stmt x.body))
+    (named_right (kept_ident x.params) (flat_map kept_def x.defs ++ (kept_ident x.name ++ (flat_map kept_param x.ports ++ flat_map kept_stmt x.body))) t.formed.order.named)))) in record {
       few = omega (arith, count x.ports, t.parameters.count);
       inputs_are = shapes_are_ports (slots_named x.params.text) false x.ports t.parameters.lengths names;
       outputs_are = shapes_are_ports (slots_named x.params.text) true x.ports t.parameters.lengths names;

@@ -10,7 +10,8 @@ use Rattle.heco_ir.specs.Ranges.{AllFit, gates_of_nodes}
 use Rattle.heco_ir.specs.Terms.{terms_at}
 use Rattle.heco_ir.specs.Unrolled.{AllElementsBelow}
 use Rattle.heco_ir.specs.Used.{EachOnce}
-use Rattle.heco_batch.specs.Roots.{homes_from, vectors_of, AllHomesFit}
+use Rattle.heco_batch.specs.Roots.{homes_from, AllHomesFit}
+use Rattle.heco_written.specs.WrittenForm.{vectors_of}
 use Rattle.heco_good.specs.Good.{modulus, slots, homes_of}
 use Rattle.heco_good.specs.Placed.{AreTerms}
 

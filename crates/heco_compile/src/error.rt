@@ -7,7 +7,7 @@ use thiserror::Error;
 /// Why a text, or a typed source, is not compiled.
 #[derive(Clone, Copy, Debug, PartialEq, Eq, Error)]
 pub enum CompileErr {
-    /// The text has more than 65,536 bytes.
+    /// The text has more than 1,048,576 bytes.
     #[error("the source is too long")]
     SourceLong,
     /// The first rule that is broken: of reading, or else of typing, or else of execution.

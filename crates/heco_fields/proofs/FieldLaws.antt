@@ -9,10 +9,11 @@ use borrow.Author.Gap.{read_sfits}
 use Rattle.std.proofs.lemmas.Nat.{be_bytes_2, be_bytes_4, be_bytes_8, from_be_bytes-to_be_bytes_2, from_be_bytes-to_be_bytes_4, from_be_bytes-to_be_bytes_8}
 use Rattle.std.specs.Str.{bytes_eq}
 use Rattle.std.proofs.lemmas.Slice.Eq.{bytes_eq-Decides}
-use Rattle.heco_fields.specs.Formats.{Value, Field, number, signed_byte, within, fixed, header, header_text, ◌>>=◌ as ◌then◌}
+use Rattle.heco_fields.specs.Formats.{Value, Field, number, signed_byte, within, fixed, versioned, versioned_text, header, header_text, ◌>>=◌ as ◌then◌}
+use Rattle.heco_fields.specs.declared.header.Header.{Header}
 use Rattle.heco_fields.specs.Readings.{Reading, reading}
 use Rattle.heco_fields.proofs.Bools.{both_true}
-use Rattle.heco_fields.proofs.Laws.{IsBytes, IsBytes-take, IsBytes-drop, Takes, Law, ok_is, value_law, then_law, same_law, skip_law}
+use Rattle.heco_fields.proofs.Laws.{IsBytes, IsBytes-take, IsBytes-drop, Takes, Law, ok_is, value_law, then_law, same_law, skip_law, last_law}
 
 passed : {A : Type 0} (b : Bool) (r : Reading A) (left : ℕ) (y : A × List ℕ) → cond b r (Err left) ≡ Ok y → (b ≡ true) × (r ≡ Ok y)
 passed true r left y e = (refl, e)
@@ -154,13 +155,35 @@ only_law v lt =
     (λ n h. only_is v n h.1)
     (λ n e. subst (λ m. (m < 2 ^ 8) × IsTrue (leb v m && leb m v)) e (lt, let t : leb v v ≡ true = le-leb v v (omega arith) in rw t refl))
 
+-- ---- headers
+
+-- a version from 1 to the newest, and the number of a preset
+abbrev pub IsHeader : ℕ → Header → Type 0
+IsHeader newest h = ((h.version < 2 ^ 8) × IsTrue (leb 1 h.version && leb h.version newest)) × ((h.preset < 2 ^ 8) × IsTrue (leb 1 h.preset && leb h.preset 5))
+
+pub versioned_law : (newest : ℕ) (magic : List ℕ) → Law (versioned newest magic) (versioned_text magic) (IsHeader newest)
+unfolding versioned
+versioned_law newest magic =
+    let made : ℕ → ℕ → Header = λ v id. record { version = v; preset = id } in
+    let Number : ℕ → ℕ → Type 0 = λ most n. (n < 2 ^ 8) × IsTrue (leb 1 n && leb n most) in
+    let preset : (v : ℕ) → Law (within w8 1 5 then λ id. Value (made v id)) (λ h. to_be_bytes w8 h.preset) (λ h. Number 5 h.preset × (made v h.preset ≡ h)) = λ v.
+    last_law (within w8 1 5) (made v) (λ h. h.preset) (to_be_bytes w8) (Number 5) (number_law w8 (2 ^ 8) wide8 (λ n. leb 1 n && leb n 5)) (λ id. refl) in
+    skip_law (fixed magic) (within w8 1 newest then λ v. within w8 1 5 then λ id. Value (made v id)) magic magic (λ h. to_be_bytes w8 h.version ++ to_be_bytes w8 h.preset) (IsHeader newest) (fixed_law magic)
+    (same_law (within w8 1 newest then λ v. within w8 1 5 then λ id. Value (made v id)) (λ h. to_be_bytes w8 h.version ++ to_be_bytes w8 h.preset) (λ h. to_be_bytes w8 h.version ++ to_be_bytes w8 h.preset)
+    (λ h. Number newest h.version × (Number 5 h.preset × (made h.version h.preset ≡ h))) (IsHeader newest)
+    (then_law (within w8 1 newest) (λ v. within w8 1 5 then λ id. Value (made v id)) (to_be_bytes w8) (λ h. to_be_bytes w8 h.preset) (Number newest) (λ v h. Number 5 h.preset × (made v h.preset ≡ h)) (λ h. h.version)
+    (number_law w8 (2 ^ 8) wide8 (λ n. leb 1 n && leb n newest)) (λ v _. preset v) (λ v h f. ap (λ (k : Header). k.version) (sym f.1)))
+    (λ h _. refl) (λ h f. (f.0, f.1.0)) (λ h f. (f.0, (f.1, refl))))
+
 pub header_law : (magic : List ℕ) → Law (header magic) (header_text magic) (λ id. (id < 2 ^ 8) × IsTrue (leb 1 id && leb id 5))
 unfolding header
 header_law magic =
+    let first : ℕ → Header = λ id. record { version = 1; preset = id } in
     let Id : ℕ → Type 0 = λ id. (id < 2 ^ 8) × IsTrue (leb 1 id && leb id 5) in
-    let last : Law (within w8 1 5 then λ id. Value id) (to_be_bytes w8) Id =
-    same_law (within w8 1 5 then λ id. Value id) (λ id. to_be_bytes w8 id ++ []) (to_be_bytes w8) (λ id. Id id × (id ≡ id)) Id
-    (then_law (within w8 1 5) (λ id. Value id) (to_be_bytes w8) (λ _. []) Id (λ (x id : ℕ). x ≡ id) (λ id. id) (number_law w8 (2 ^ 8) wide8 (λ n. leb 1 n && leb n 5)) (λ id _. value_law id) (λ x y e. sym e))
-    (λ id _. append-nil (to_be_bytes w8 id)) (λ id h. h.0) (λ id h. (h, refl)) in
-    skip_law (fixed magic) (within w8 1 1 then λ _. within w8 1 5 then λ id. Value id) magic magic (λ id. to_be_bytes w8 1 ++ to_be_bytes w8 id) Id (fixed_law magic)
-    (skip_law (within w8 1 1) (within w8 1 5 then λ id. Value id) (to_be_bytes w8 1) 1 (to_be_bytes w8) Id (only_law 1 (omega arith)) last)
+    same_law (header magic) (λ id. versioned_text magic (first id) ++ []) (header_text magic) (λ id. IsHeader 1 (first id) × (first id ≡ first id)) Id
+    (then_law (versioned 1 magic) (λ h. Value h.preset) (versioned_text magic) (λ _. []) (IsHeader 1) (λ (h : Header) (id : ℕ). first id ≡ h) first (versioned_law 1 magic)
+    (λ h f. same_law (Value h.preset) (λ _. []) (λ _. []) (λ id. h.preset ≡ id) (λ id. first id ≡ h) (value_law h.preset) (λ id _. refl)
+    (λ id e. subst (λ (k : ℕ). first k ≡ h) e (ap (λ v. record { version = v; preset = h.preset }) (only_is 1 h.version f.0.1)))
+    (λ id e. ap (λ (k : Header). k.preset) (sym e)))
+    (λ h id e. e))
+    (λ id _. append-nil (header_text magic id)) (λ id f. f.0.1) (λ id f. (((omega arith, refl), f), refl))

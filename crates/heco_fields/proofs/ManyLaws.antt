@@ -1,7 +1,7 @@
 -- The laws of so many values in a row, each by what stands before it.
 use Rattle.std.proofs.Common.{◌≡◌, ℕ, zero, suc, Bool, true, List, [], ◌∷◌, ◌++◌, length, Ok, refl, sym, ap, subst, ◌∙◌, append_assoc}
 use Rattle.std.specs.Prelude.{IsTrue}
-use Rattle.std.specs.List.{flat_map}
+use Rattle.std.specs.List.{flat_map, list_all}
 use Rattle.std.proofs.lemmas.List.Concat.{flat_map-cons}
 use Rattle.heco_fields.specs.Formats.{Format, Value, many, ◌>>=◌ as ◌then◌}
 use Rattle.heco_fields.specs.Readings.{reading, ◌>>=◌}
@@ -70,6 +70,12 @@ pub along_passes : {S A : Type 0} (Fits : S → A → Type 0) (test : S → A �
 unfolding FitAlong
 along_passes Fits test next to s [] fits = refl
 along_passes Fits test next to s (x ∷ xs) fits = let h : test s x ≡ true = to s x fits.0 in rw h (along_passes Fits test next to (next s x) xs fits.1)
+
+-- each value passes a test besides
+pub both_along : {S A : Type 0} (Fits : S → A → Type 0) (test : A → Bool) (next : S → A → S) (s : S) (xs : List A) → FitAlong Fits next s xs → IsTrue (list_all test xs) → FitAlong (λ s x. Fits s x × IsTrue (test x)) next s xs
+unfolding FitAlong
+both_along Fits test next s [] fits h = tt
+both_along Fits test next s (x ∷ xs) fits h = let b = both_true (test x) (list_all test xs) h in ((fits.0, b.0), both_along Fits test next (next s x) xs fits.1 b.1)
 
 -- Holds is kept along the values, with so many to come
 pub passes_along : {S A : Type 0} (Fits : S → A → Type 0) (test : S → A → Bool) (next : S → A → S) (Holds : ℕ → S → Type 0)

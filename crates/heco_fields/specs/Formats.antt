@@ -2,6 +2,7 @@
 use Rattle.std.specs.Prelude.{◌≡◌, ℕ, zero, suc, ◌+◌, ◌<◌, Bool, true, false, ◌&&◌, ◌==◌, List, [], ◌∷◌, ◌++◌, length, take, Option, Some, None, ◌⊎◌, nat_le, if◌then◌else◌, ℤ}
 use Rattle.std.specs.Int.{Width, w8, byte_len, from_be_bytes, to_be_bytes, cast_signed}
 use Rattle.std.specs.Str.{bytes_eq}
+use Rattle.heco_fields.specs.declared.header.Header.{Header}
 
 -- a value that has been spelled whole, or a field: its width, which bytes are allowed there, and by its bytes what follows
 pub data Format (A : Type 0) : Type 0 where
@@ -70,13 +71,22 @@ fixed text = Field (length text) (λ b. bytes_eq b text) (λ b. Value b)
 abbrev pub any : Width → Format ℕ
 any w = number w (λ n. true)
 
--- the magic, version 1, and the number of a preset
+-- the magic, a version from 1 to the newest, and the number of a preset
+unfoldable pub versioned : ℕ → List ℕ → Format Header
+versioned newest magic = do
+  text ← fixed magic
+  version ← within w8 1 newest
+  preset ← within w8 1 5
+  Value (record { version = version; preset = preset })
+
+abbrev pub versioned_text : List ℕ → Header → List ℕ
+versioned_text magic h = magic ++ (to_be_bytes w8 h.version ++ to_be_bytes w8 h.preset)
+
+-- of a file that has version 1 alone: the number of its preset
 unfoldable pub header : List ℕ → Format ℕ
 header magic = do
-  text ← fixed magic
-  version ← within w8 1 1
-  preset ← within w8 1 5
-  Value preset
+  h ← versioned 1 magic
+  Value h.preset
 
 abbrev pub header_text : List ℕ → ℕ → List ℕ
-header_text magic id = magic ++ (to_be_bytes w8 1 ++ to_be_bytes w8 id)
+header_text magic id = versioned_text magic (record { version = 1; preset = id })

@@ -1,9 +1,9 @@
 ghost use Rattle.std.specs.Prelude.{◌≡◌, ◌≤◌, length, true, IfOk, IfErr};
 ghost use Rattle.std.specs.Int.{w8, w16, w32, w64};
-ghost use Rattle.heco_fields.specs.Formats.{within, fixed, any, header, signed_byte};
+ghost use Rattle.heco_fields.specs.Formats.{within, fixed, any, versioned, header, signed_byte};
 ghost use Rattle.heco_fields.specs.Readings.{Gives, IsAtField, reading};
 
-use crate::Fault;
+use crate::{Fault, Header};
 
 /// The refusal of the field that begins at the first of these bytes.
 pub fn broken(bytes: &[u8]) -> Fault
@@ -128,6 +128,23 @@ pub fn i8_at(bytes: &[u8]) -> Result<(i8, &[u8]), Fault>
     Ok((value.cast_signed(), rest))
 }
 
+/// The magic, a version from 1 to `newest`, and the number of a preset, 1 to 5, and the bytes after them.
+#[tactic(auto, using(crate::proofs::Steps::reading_then), unfolding(crate::specs::Formats::versioned, crate::specs::Readings::reading))]
+pub fn versioned_at<'a>(
+    bytes: &'a [u8],
+    magic: &[u8],
+    newest: u8,
+) -> Result<(Header, &'a [u8]), Fault>
+    ensures read { Gives (λ x. (x.0, x.1.now)) result (reading (versioned newest magic.now) bytes.now) }
+    ensures range { IfOk result (λ x. (1 ≤ x.0.preset) × (x.0.preset ≤ 5)) }
+    ensures field { IfErr result IsAtField }
+{
+    let (_, rest) = fixed_at(bytes, magic)?;
+    let (version, rest) = u8_within(rest, 1, newest)?;
+    let (preset, rest) = u8_within(rest, 1, 5)?;
+    Ok((Header { version, preset }, rest))
+}
+
 /// The magic, version 1, and the number of a preset, 1 to 5, which is given back with the bytes after it.
 #[tactic(auto, using(crate::proofs::Steps::reading_then), unfolding(crate::specs::Formats::header, crate::specs::Readings::reading))]
 pub fn header_at<'a>(bytes: &'a [u8], magic: &[u8]) -> Result<(u8, &'a [u8]), Fault>
@@ -135,8 +152,6 @@ pub fn header_at<'a>(bytes: &'a [u8], magic: &[u8]) -> Result<(u8, &'a [u8]), Fa
     ensures range { IfOk result (λ x. (1 ≤ x.0) × (x.0 ≤ 5)) }
     ensures field { IfErr result IsAtField }
 {
-    let (_, rest) = fixed_at(bytes, magic)?;
-    let (_, rest) = u8_within(rest, 1, 1)?;
-    let (preset, rest) = u8_within(rest, 1, 5)?;
-    Ok((preset, rest))
+    let (header, rest) = versioned_at(bytes, magic, 1)?;
+    Ok((header.preset, rest))
 }

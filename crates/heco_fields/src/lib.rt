@@ -3,13 +3,16 @@
 
 mod fault;
 mod fields;
+mod header;
 mod writing;
 
 pub use fault::Fault;
 pub use fields::{
     broken, fixed_at, header_at, i8_at, u8_within, u16_within, u32_at, u32_within, u64_within,
+    versioned_at,
 };
-pub use writing::{put_header, put_i8, put_u16, put_u32, put_u64};
+pub use header::Header;
+pub use writing::{put_header, put_i8, put_u16, put_u32, put_u64, put_versioned};
 
 #[cfg(test)]
 mod tests;

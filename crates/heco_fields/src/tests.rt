@@ -25,6 +25,16 @@ fn fields_are_put_and_read(rt: HostRuntime) -> Result<(), Fail> {
     assert_eq!(rt; left(header_at(&bytes[..5], b"HCIR".as_slice())), 0);
     assert_eq!(rt; left(u8_within(&bytes[5..], 1, 2)), 16);
     assert_eq!(rt; left(u8_within(&bytes[5..], 4, 5)), 16);
+    let second = [72, 67, 73, 82, 2, 3];
+    assert_eq!(rt; left(header_at(second.as_slice(), b"HCIR".as_slice())), 2);
+    match versioned_at(second.as_slice(), b"HCIR".as_slice(), 2) {
+        Ok((header, rest)) => {
+            assert_eq!(rt; header.version, 2);
+            assert_eq!(rt; header.preset, 3);
+            assert!(rt; rest.is_empty());
+        }
+        Err(_) => assert!(rt; false),
+    }
     match i8_at(&bytes[20..]) {
         Ok((value, rest)) => {
             assert_eq!(rt; value, -128);

@@ -1,7 +1,8 @@
 ghost use Rattle.std.specs.Prelude.{◌≡◌, ◌++◌, OnOk, OnErr, length, take};
 ghost use Rattle.std.specs.Int.{w8, w16, w32, w64, to_be_bytes, cast_unsigned};
-ghost use Rattle.heco_fields.specs.Formats.{header_text};
+ghost use Rattle.heco_fields.specs.Formats.{header_text, versioned_text};
 
+use crate::Header;
 use heco_nums::{Bytes, Memory};
 
 /// Puts the two low bytes of a number, the high one first.
@@ -42,11 +43,23 @@ pub fn put_i8(out: &mut Bytes, n: i8) -> Result<(), Memory>
     out.push(n.cast_unsigned())
 }
 
+/// Puts the magic, the version, and the number of a preset. Where memory is wanting the old bytes stand.
+pub fn put_versioned(out: &mut Bytes, magic: &[u8], header: Header) -> Result<(), Memory>
+    ensures ok { OnOk result (out.new ≡ out.old ++ versioned_text magic.now header) }
+    ensures err { OnErr result (take (length out.old) out.new ≡ out.old) }
+{
+    out.extend_from_slice(magic)?;
+    out.extend_from_slice([header.version, header.preset].as_slice())
+}
+
 /// Puts the magic, version 1, and the number of a preset. Where memory is wanting the old bytes stand.
 pub fn put_header(out: &mut Bytes, magic: &[u8], id: u8) -> Result<(), Memory>
     ensures ok { OnOk result (out.new ≡ out.old ++ header_text magic.now id) }
     ensures err { OnErr result (take (length out.old) out.new ≡ out.old) }
 {
-    out.extend_from_slice(magic)?;
-    out.extend_from_slice([1, id].as_slice())
+    let header = Header {
+        version: 1,
+        preset: id,
+    };
+    put_versioned(out, magic, header)
 }

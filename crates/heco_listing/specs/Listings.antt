@@ -6,7 +6,7 @@ use Rattle.heco_nums.specs.declared.shape.Shape.{Shape}
 use Rattle.heco_circuit.specs.declared.gate.Cell.{Cell}
 use Rattle.heco_circuit.specs.declared.gate.Cell.TheVariants.{Number, Slot}
 use Rattle.heco_circuit.specs.declared.gate.Gate.{Gate}
-use Rattle.heco_circuit.specs.declared.gate.Gate.TheVariants.{Neg, Add, Mul, Relin, Scale, Shift, Turn}
+use Rattle.heco_circuit.specs.declared.gate.Gate.TheVariants.{Neg, Add, Sub, Mul, Relin, Scale, Shift, Turn}
 use Rattle.heco_circuit.specs.declared.gate.Output.{Output}
 use Rattle.heco_circuit.specs.Plans.{Plan}
 use Rattle.heco_circuit.specs.Bounds.{wire_bounds}
@@ -28,6 +28,7 @@ two a b = decimal a ++ codes " " ++ decimal b
 abbrev pub gate_words : Gate → List ℕ
 gate_words (Neg a) = codes "Neg " ++ decimal a
 gate_words (Add a b) = codes "Add " ++ two a b
+gate_words (Sub a b) = codes "Sub " ++ two a b
 gate_words (Mul a b) = codes "Mul " ++ two a b
 gate_words (Relin a) = codes "Relin " ++ decimal a
 gate_words (Scale c a) = codes "Scale " ++ two c a

@@ -25,6 +25,7 @@ fn put_gate(out: &mut Bytes, gate: Gate) -> Result<(), Memory>
     match gate {
         Gate::Neg { a } => put_one(out, b"Neg ", a),
         Gate::Add { a, b } => put_pair(out, b"Add ", a, b),
+        Gate::Sub { a, b } => put_pair(out, b"Sub ", a, b),
         Gate::Mul { a, b } => put_pair(out, b"Mul ", a, b),
         Gate::Relin { a } => put_one(out, b"Relin ", a),
         Gate::Scale { c, a } => put_pair(out, b"Scale ", c, a),

@@ -6,7 +6,7 @@ use Rattle.heco_fields.specs.Runs.{along}
 use Rattle.heco_circuit.specs.declared.gate.Cell.{Cell}
 use Rattle.heco_circuit.specs.declared.gate.Cell.TheVariants.{Number, Slot}
 use Rattle.heco_circuit.specs.declared.gate.Gate.{Gate}
-use Rattle.heco_circuit.specs.declared.gate.Gate.TheVariants.{Neg, Add, Mul, Relin, Scale, Shift, Turn}
+use Rattle.heco_circuit.specs.declared.gate.Gate.TheVariants.{Neg, Add, Sub, Mul, Relin, Scale, Shift, Turn}
 use Rattle.heco_circuit.specs.declared.gate.Output.{Output}
 use Rattle.heco_circuit.specs.Plans.{Plan}
 
@@ -17,6 +17,11 @@ abbrev pub sums : ℕ → List ℕ → List ℕ → List ℕ
 sums t [] ys = []
 sums t (x ∷ xs) [] = []
 sums t (x ∷ xs) (y ∷ ys) = (x + y) % t ∷ sums t xs ys
+
+abbrev pub differences : ℕ → List ℕ → List ℕ → List ℕ
+differences t [] ys = []
+differences t (x ∷ xs) [] = []
+differences t (x ∷ xs) (y ∷ ys) = (x + (t - y % t)) % t ∷ differences t xs ys
 
 abbrev pub products : ℕ → List ℕ → List ℕ → List ℕ
 products t [] ys = []
@@ -31,6 +36,7 @@ turned r xs = drop r xs ++ take r xs
 abbrev pub wire_of : ℕ → List (List ℕ) → Gate → List ℕ
 wire_of t wires (Neg a) = map (λ x. (t - x) % t) (wire_at wires a)
 wire_of t wires (Add a b) = sums t (wire_at wires a) (wire_at wires b)
+wire_of t wires (Sub a b) = differences t (wire_at wires a) (wire_at wires b)
 wire_of t wires (Mul a b) = products t (wire_at wires a) (wire_at wires b)
 wire_of t wires (Relin a) = wire_at wires a
 wire_of t wires (Scale c a) = map (λ x. (c * x) % t) (wire_at wires a)

@@ -1,5 +1,5 @@
 ghost use Rattle.std.specs.Prelude.{◌≡◌, ◌≤◌, ◌<◌, ◌-◌, ◌+◌, ◌*◌, ◌%◌, map, IfOk};
-ghost use Rattle.heco_meaning.specs.Meanings.{sums, products, turned, filled};
+ghost use Rattle.heco_meaning.specs.Meanings.{sums, differences, products, turned, filled};
 
 use heco_nums::{List, Memory};
 use std::alloc::Global;
@@ -24,6 +24,13 @@ fn sum(t: u32, x: u32, y: u32) -> u32
     ((u64::from(x) + u64::from(y)) % u64::from(t)) as u32
 }
 
+fn difference(t: u32, x: u32, y: u32) -> u32
+    requires { 1 ≤ t }
+    ensures { result ≡ (x + (t - y % t)) % t }
+{
+    ((u64::from(x) + u64::from(t - y % t)) % u64::from(t)) as u32
+}
+
 fn product(t: u32, x: u32, y: u32) -> u32
     requires { 1 ≤ t }
     ensures { result ≡ (x * y) % t }
@@ -42,6 +49,23 @@ pub fn sums(alloc: Global, t: u32, xs: &[u32], ys: &[u32]) -> Result<List<u32>, 
             return Ok(out);
         };
         out.push(sum(t, *x, *y))?;
+        left = more;
+        right = others;
+    }
+    Ok(out)
+}
+
+pub fn differences(alloc: Global, t: u32, xs: &[u32], ys: &[u32]) -> Result<List<u32>, Memory>
+    requires { 1 ≤ t }
+    ensures { IfOk result (λ out. out ≡ differences t xs.now ys.now) }
+{
+    let mut out = List::new(alloc);
+    let (mut left, mut right) = (xs, ys);
+    while let [x, more @ ..] = left {
+        let [y, others @ ..] = right else {
+            return Ok(out);
+        };
+        out.push(difference(t, *x, *y))?;
         left = more;
         right = others;
     }

@@ -24,6 +24,7 @@ fn wire_of(alloc: Global, t: u32, wires: &[List<u32>], gate: Gate) -> Result<Lis
     match gate {
         Gate::Neg { a } => slots::negatives(alloc, t, wire_at(wires, a)),
         Gate::Add { a, b } => slots::sums(alloc, t, wire_at(wires, a), wire_at(wires, b)),
+        Gate::Sub { a, b } => slots::differences(alloc, t, wire_at(wires, a), wire_at(wires, b)),
         Gate::Mul { a, b } => slots::products(alloc, t, wire_at(wires, a), wire_at(wires, b)),
         Gate::Relin { a } => List::from_slice(alloc, wire_at(wires, a)),
         Gate::Scale { c, a } => slots::multiples(alloc, t, c, wire_at(wires, a)),

@@ -1,4 +1,4 @@
--- What the kinds of gates say of their number, their relinearisations and their turns.
+-- What the kinds of gates say of their number, their relinearisations and their turns, and that none is a difference.
 use Rattle.std.proofs.Common.{◌≡◌, ℕ, suc, ◌+◌, Bool, true, false, ◌||◌, eqb, cond, List, [], ◌∷◌, ◌++◌, length, map, refl, sym, ap, ◌∙◌, arith}
 use Rattle.std.specs.List.{list_any, sum_by, count_by, flat_map}
 use Rattle.std.proofs.lemmas.List.{length-map}
@@ -9,15 +9,20 @@ use Rattle.heco_written.specs.VectorTerm.{VectorTerm, Input, Negated, Added, Mul
 use Rattle.heco_written.specs.Cost.{gates, late_gates, is_due}
 use Rattle.heco_written.specs.Needs.{is_product, turns_by}
 use Rattle.heco_circuit.specs.declared.gate.Gate.{Gate}
-use Rattle.heco_circuit.specs.declared.gate.Gate.TheVariants.{Neg, Add, Mul, Relin, Scale, Shift, Turn}
+use Rattle.heco_circuit.specs.declared.gate.Gate.TheVariants.{Neg, Add, Sub, Mul, Relin, Scale, Shift, Turn}
 use Rattle.heco_circuit.specs.Needs.{is_relin, turns_by as gate_turns_by}
-use Rattle.heco_place.specs.Kinds.{Kind, Product, Relinearisation, TurnBy, kind, kinds, relinearisation_where, is_relinearised}
+use Rattle.heco_circuit.specs.Versions.{is_sub, version_of}
+use Rattle.heco_place.specs.Kinds.{Kind, Difference, Product, Relinearisation, TurnBy, kind, kinds, relinearisation_where, is_relinearised}
 use Rattle.heco_thrift.specs.Thrift.{is_product as is_product_gate}
 use Rattle.heco_place.proofs.Bools.{or_false, or_assoc, equal}
 
 abbrev is_relin_kind : Kind → Bool
 is_relin_kind Relinearisation = true
 is_relin_kind k = false
+
+abbrev is_difference_kind : Kind → Bool
+is_difference_kind Difference = true
+is_difference_kind k = false
 
 abbrev is_product_kind : Kind → Bool
 is_product_kind Product = true
@@ -57,6 +62,7 @@ count-flat f p q h (x ∷ xs) = omega (arith, sum_by-append (λ y. cond (p y) 1 
 relin_is : (g : Gate) → is_relin g ≡ is_relin_kind (kind g)
 relin_is (Neg a) = refl
 relin_is (Add a b) = refl
+relin_is (Sub a b) = refl
 relin_is (Mul a b) = refl
 relin_is (Relin a) = refl
 relin_is (Scale c a) = refl
@@ -66,15 +72,27 @@ relin_is (Turn r a) = refl
 mul_is : (g : Gate) → is_product_gate g ≡ is_product_kind (kind g)
 mul_is (Neg a) = refl
 mul_is (Add a b) = refl
+mul_is (Sub a b) = refl
 mul_is (Mul a b) = refl
 mul_is (Relin a) = refl
 mul_is (Scale c a) = refl
 mul_is (Shift c a) = refl
 mul_is (Turn r a) = refl
 
+sub_is : (g : Gate) → is_sub g ≡ is_difference_kind (kind g)
+sub_is (Neg a) = refl
+sub_is (Add a b) = refl
+sub_is (Sub a b) = refl
+sub_is (Mul a b) = refl
+sub_is (Relin a) = refl
+sub_is (Scale c a) = refl
+sub_is (Shift c a) = refl
+sub_is (Turn r a) = refl
+
 turn_is : (r : ℕ) (g : Gate) → gate_turns_by r g ≡ turns_kind r (kind g)
 turn_is r (Neg a) = refl
 turn_is r (Add a b) = refl
+turn_is r (Sub a b) = refl
 turn_is r (Mul a b) = refl
 turn_is r (Relin a) = refl
 turn_is r (Scale c a) = refl
@@ -171,6 +189,23 @@ module _ (late : Bool) (ts vs : List VectorTerm) where
   has_turn r (Shifted c v) = no_turn r (relins (Shifted c v))
   has_turn r (Turned s v) = ap (λ b. eqb r s || b) (no_turn r (relins (Turned s v))) ∙ or_false (eqb r s)
 
+  no_difference : (b : Bool) → list_any is_difference_kind (relinearisation_where b) ≡ false
+  no_difference true = refl
+  no_difference false = refl
+
+  has_difference : (v : VectorTerm) → list_any is_difference_kind (kinds late ts vs v) ≡ false
+  has_difference (Input a) = refl
+  has_difference (Negated v) = no_difference (relins (Negated v))
+  has_difference (Added v u) = no_difference (relins (Added v u))
+  has_difference (Multiplied v u) = no_difference (relins (Multiplied v u))
+  has_difference (Scaled c v) = no_difference (relins (Scaled c v))
+  has_difference (Shifted c v) = no_difference (relins (Shifted c v))
+  has_difference (Turned r v) = no_difference (relins (Turned r v))
+
+  any_never : (xs : List VectorTerm) → list_any (λ v. false) xs ≡ false
+  any_never [] = refl
+  any_never (x ∷ xs) = any_never xs
+
   sum-same : (f g : VectorTerm → ℕ) → ((v : VectorTerm) → f v ≡ g v) → (xs : List VectorTerm) → sum_by f xs ≡ sum_by g xs
   sum-same f g h [] = refl
   sum-same f g h (x ∷ xs) = omega (arith, sum_by-cons f x xs, sum_by-cons g x xs, h x, sum-same f g h xs)
@@ -192,6 +227,12 @@ module _ (late : Bool) (ts vs : List VectorTerm) where
 
     pub any_turn_is : (r : ℕ) → list_any (gate_turns_by r) gs ≡ list_any (turns_by r) xs
     any_turn_is r = any-map kind (turns_kind r) (gate_turns_by r) (turn_is r) gs ∙ ap (list_any (turns_kind r)) are ∙ any-flat (kinds late ts vs) (turns_kind r) (turns_by r) (has_turn r) xs
+
+    no_subs : list_any is_sub gs ≡ false
+    no_subs = any-map kind is_difference_kind is_sub sub_is gs ∙ ap (list_any is_difference_kind) are ∙ any-flat (kinds late ts vs) is_difference_kind (λ v. false) has_difference xs ∙ any_never xs
+
+    pub version_is : version_of gs ≡ 1
+    version_is = rw no_subs refl
 
 -- both forms of the gates differ by what is due and what is a product
 pub forms_differ : (ts vs xs : List VectorTerm) → sum_by (late_gates ts vs) xs + count_by is_product xs ≡ sum_by gates xs + count_by (is_due ts vs) xs

@@ -5,7 +5,7 @@ use Rattle.std.proofs.lemmas.List.{append_assoc, get_or_at, length_push}
 use Rattle.heco_written.specs.VectorTerm.{VectorTerm, Input}
 use Rattle.heco_ir.specs.declared.home.Home.{Home}
 use Rattle.heco_ir.specs.declared.home.Home.TheVariants.{Number, At}
-use Rattle.heco_thrift.specs.Thrift.{vectors_of}
+use Rattle.heco_written.specs.WrittenForm.{vectors_of}
 use Rattle.heco_place.specs.Fitting.{named}
 use Rattle.heco_place.specs.NodeHomes.{homes_over}
 

@@ -31,7 +31,8 @@ use Rattle.heco_circuit.specs.Circuits.{IsCircuit}
 use Rattle.heco_circuit.specs.Plans.{Plan, shape_of}
 use Rattle.heco_place.specs.declared.carrier.Carrier.{Carrier}
 use Rattle.heco_thrift.specs.Placed.{IsPlaced}
-use Rattle.heco_thrift.specs.Thrift.{vectors_of, bounds_of, gate_bounds, IsThrifty}
+use Rattle.heco_written.specs.WrittenForm.{vectors_of}
+use Rattle.heco_thrift.specs.Thrift.{bounds_of, gate_bounds, IsThrifty}
 use Rattle.heco_place.specs.Cells.{cell_over, cells_of}
 use Rattle.heco_place.specs.Fitting.{terms_of, AllHomesWithin, AreHomes}
 use Rattle.heco_place.specs.Kinds.{kinds, AreFewer}

@@ -10,16 +10,16 @@ use Rattle.heco_nums.specs.Presets.{modulus_of, slots_of}
 use Rattle.heco_nums.specs.Words.{is_word}
 use Rattle.heco_nums.specs.declared.shape.Shape.{Shape}
 use Rattle.heco_fields.specs.Runs.{along, all_along}
-use Rattle.heco_fields.specs.Formats.{header_text}
+use Rattle.heco_fields.specs.Formats.{versioned_text}
 use Rattle.heco_circuit.specs.declared.gate.Cell.{Cell}
 use Rattle.heco_circuit.specs.declared.gate.Cell.TheVariants.{Number, Slot}
 use Rattle.heco_circuit.specs.declared.gate.Gate.{Gate}
-use Rattle.heco_circuit.specs.declared.gate.Gate.TheVariants.{Neg, Add, Mul, Relin, Scale, Shift, Turn}
+use Rattle.heco_circuit.specs.declared.gate.Gate.TheVariants.{Neg, Add, Sub, Mul, Relin, Scale, Shift, Turn}
 use Rattle.heco_circuit.specs.declared.gate.Output.{Output}
 use Rattle.heco_circuit.specs.Validity.{is_between, is_gate, with_gate}
 use Rattle.heco_circuit.specs.Plans.{names_input, names_output, is_name, is_input, is_cell, is_output, push, input_parts, is_formed, shape_of}
 use Rattle.heco_circuit.specs.GateFormat.{gate_text}
-use Rattle.heco_circuit.specs.CircuitFormat.{plan, name_text, input_text, cell_text, output_text, inputs_text, gates_text, outputs_text, circuit_text}
+use Rattle.heco_circuit.specs.CircuitFormat.{plan, header_of, name_text, input_text, cell_text, output_text, inputs_text, gates_text, outputs_text, circuit_text}
 use Rattle.heco_circuit.specs.Circuits.{is_short, most}
 use Rattle.heco_place.specs.Cells.{cells_of}
 use Rattle.heco_place.proofs.Bools.{both, left, right}
@@ -90,6 +90,7 @@ module _ (id : ℕ) (inputs shapes : List Shape) (gates : List Gate) (outputs : 
   gate_short : (g : Gate) → length (gate_text g) ≤ 9
   gate_short (Neg a) = omega arith
   gate_short (Add a b) = omega arith
+  gate_short (Sub a b) = omega arith
   gate_short (Mul a b) = omega arith
   gate_short (Relin a) = omega arith
   gate_short (Scale c a) = omega arith
@@ -146,7 +147,7 @@ module _ (id : ℕ) (inputs shapes : List Shape) (gates : List Gate) (outputs : 
       let i : List ℕ = inputs_text inputs in
       let g : List ℕ = gates_text gates in
       let o : List ℕ = outputs_text outputs in
-      let h : List ℕ = header_text (codes "HCIR") id in
+      let h : List ℕ = versioned_text (codes "HCIR") (header_of (plan id inputs gates outputs)) in
       let head : length h ≡ 6 = refl in
       let li : length i ≡ 2 + length (flat_map input_text inputs) = length-append (to_be_bytes w16 (length inputs)) (flat_map input_text inputs) in
       let lg : length g ≡ 4 + length (flat_map gate_text gates) = length-append (to_be_bytes w32 (length gates)) (flat_map gate_text gates) in

@@ -5,7 +5,7 @@ use Rattle.heco_written.specs.VectorTerm.{VectorTerm, Input, Multiplied, Turned}
 use Rattle.heco_written.specs.Cost.{is_due, cost, late_cost}
 use Rattle.heco_written.specs.Needs.{is_product}
 use Rattle.heco_circuit.specs.declared.gate.Gate.{Gate}
-use Rattle.heco_circuit.specs.declared.gate.Gate.TheVariants.{Neg, Add, Mul, Relin, Scale, Shift, Turn}
+use Rattle.heco_circuit.specs.declared.gate.Gate.TheVariants.{Neg, Add, Sub, Mul, Relin, Scale, Shift, Turn}
 
 -- whether the wire of a term is relinearised: late where it is due, or else where the term is a product
 abbrev pub is_relinearised : Bool → List VectorTerm → List VectorTerm → VectorTerm → Bool
@@ -14,6 +14,7 @@ is_relinearised late ts vs v = cond late (is_due ts vs v) (is_product v)
 -- a gate without its wires
 pub data Kind : Type 0 where
   Linear : Kind
+  Difference : Kind
   Product : Kind
   Relinearisation : Kind
   TurnBy : ℕ → Kind
@@ -21,6 +22,7 @@ pub data Kind : Type 0 where
 abbrev pub kind : Gate → Kind
 kind (Neg a) = Linear
 kind (Add a b) = Linear
+kind (Sub a b) = Difference
 kind (Mul a b) = Product
 kind (Relin a) = Relinearisation
 kind (Scale c a) = Linear

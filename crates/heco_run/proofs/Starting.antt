@@ -11,7 +11,7 @@ use Rattle.heco_nums.specs.declared.needs.KeyNeeds.{KeyNeeds}
 use Rattle.heco_nums.specs.Presets.{slots_of, modulus_of}
 use Rattle.heco_fields.proofs.Bools.{both_true}
 use Rattle.heco_circuit.specs.declared.gate.Gate.{Gate}
-use Rattle.heco_circuit.specs.declared.gate.Gate.TheVariants.{Neg, Add, Mul, Relin, Scale, Shift, Turn}
+use Rattle.heco_circuit.specs.declared.gate.Gate.TheVariants.{Neg, Add, Sub, Mul, Relin, Scale, Shift, Turn}
 use Rattle.heco_circuit.specs.Needs.{needs_relin, turns_by, occurring, needed_turns}
 use Rattle.heco_circuit.specs.Plans.{Plan, wire_parts, is_formed}
 use Rattle.heco_circuit.specs.Validity.{is_between, has_parts, is_gate}
@@ -91,6 +91,7 @@ found_all (x ∷ xs) turns r e h = elim (cases_Bool (names turns x)) [
 turned_by : (r : ℕ) (g : Gate) → turns_by r g ≡ true → (a : ℕ) × (g ≡ Turn r a)
 turned_by r (Neg a) h = absurd (cc)
 turned_by r (Add a b) h = absurd (cc)
+turned_by r (Sub a b) h = absurd (cc)
 turned_by r (Mul a b) h = absurd (cc)
 turned_by r (Relin a) h = absurd (cc)
 turned_by r (Scale c a) h = absurd (cc)

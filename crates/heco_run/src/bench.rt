@@ -45,6 +45,7 @@ fn parts_made(store: &Vec<Option<Ct>>, gate: Gate) -> u32
     match gate {
         Gate::Neg { a } => parts_at(store, a),
         Gate::Add { a, b } => parts_at(store, a).max(parts_at(store, b)),
+        Gate::Sub { a, b } => parts_at(store, a).max(parts_at(store, b)),
         Gate::Mul { .. } => 3,
         Gate::Relin { .. } => 2,
         Gate::Scale { a, .. } => parts_at(store, a),

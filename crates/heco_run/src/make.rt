@@ -44,6 +44,7 @@ pub fn make_one(gates: &mut Gates, e: &Eval, gate: Gate, a: &Ct, out: &mut Ct)
             }
         }
         Gate::Add { .. } => {}
+        Gate::Sub { .. } => {}
         Gate::Mul { .. } => {}
     }
 }
@@ -63,6 +64,7 @@ pub fn make_two(gates: &mut Gates, e: &Eval, gate: Gate, a: &Ct, b: &Ct, out: &m
 {
     match gate {
         Gate::Add { .. } => gates.add(a, b, out),
+        Gate::Sub { .. } => gates.sub(a, b, out),
         Gate::Mul { .. } => gates.mul(a, b, out),
         Gate::Neg { .. } => {}
         Gate::Relin { .. } => {}

@@ -1,0 +1,9 @@
+use Rattle.std.proofs.Common.{◌≡◌, ◌++◌, length}
+use Rattle.heco_meaning.specs.Meanings.{differences}
+use Rattle.heco_meaning.proofs.slots.differences.Given as goal
+
+abbrev pub invariant-loop-left : goal.invariant-loop-left
+invariant-loop-left l = l.out ++ differences l.t l.left l.right ≡ differences l.t l.xs l.ys
+
+abbrev pub decreases-loop-left : goal.decreases-loop-left
+decreases-loop-left l = length l.left
