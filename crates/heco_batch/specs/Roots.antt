@@ -1,8 +1,7 @@
 -- The homes of roots: numbers, or slots of numbered vectors.
 use Rattle.std.specs.Prelude.{ℕ, ◌+◌, ◌<◌, ◌≡◌, true, List, [], ◌∷◌, map, length}
 use Rattle.heco_written.specs.ScalarTerm.{ScalarTerm}
-use Rattle.heco_written.specs.VectorTerm.{VectorTerm}
-use Rattle.heco_written.specs.WrittenForm.{Home as WrittenHome, Known, At as AtPlace, places, written}
+use Rattle.heco_written.specs.WrittenForm.{Home as WrittenHome, Known, At as AtPlace, places, vectors_of, written}
 use Rattle.heco_ir.specs.declared.dialect.NodeId.{NodeId}
 use Rattle.heco_ir.specs.declared.home.Home.{Home}
 use Rattle.heco_ir.specs.declared.home.Home.TheVariants.{Number as NumberHome, At}
@@ -19,10 +18,6 @@ abbrev pub homes_from : ℕ → List WrittenHome → List Home
 homes_from next [] = []
 homes_from next (Known c ∷ hs) = NumberHome c ∷ homes_from next hs
 homes_from next (AtPlace p ∷ hs) = At next p.slot ∷ homes_from (next + 1) hs
-
--- the vectors of the places, in order
-abbrev pub vectors_of : List WrittenHome → List VectorTerm
-vectors_of hs = map (λ p. p.vector) (places hs)
 
 abbrev pub HomeFits : ℕ → ℕ → Home → Type 0
 HomeFits slots modulus (NumberHome c) = c < modulus

@@ -1,5 +1,5 @@
 ghost use Rattle.std.specs.Prelude.{◌≡◌, ℕ, ◌+◌, ◌*◌, ◌^◌, ◌<◌, ◌≤◌, List as Seq, ◌∷◌, [], ◌++◌, length, IfOk, OnOk, true};
-ghost use Rattle.heco_written.specs.WrittenForm.{Home as WrittenHome};
+ghost use Rattle.heco_written.specs.WrittenForm.{Home as WrittenHome, vectors_of};
 ghost use Rattle.heco_ir.specs.declared.vector.VNode.{VNode};
 ghost use Rattle.heco_ir.specs.Ranges.{AllFit, gates_of_nodes};
 ghost use Rattle.heco_ir.specs.Used.{EachOnce};
@@ -8,7 +8,7 @@ ghost use Rattle.heco_ir.specs.Terms.{scalar_terms, terms_at};
 ghost use Rattle.heco_batch.specs.Homes.{HomeIs};
 ghost use Rattle.heco_ir.specs.Unrolled.{AllMade, AllElementsBelow, operations, root_terms};
 ghost use Rattle.heco_batch.specs.Table.{TableIs, HasInputs};
-ghost use Rattle.heco_batch.specs.Roots.{RootsAre, written_homes, homes_from, vectors_of, AllHomesFit};
+ghost use Rattle.heco_batch.specs.Roots.{RootsAre, written_homes, homes_from, AllHomesFit};
 
 use crate::home::NodeHome;
 use crate::place::NodeSlot;

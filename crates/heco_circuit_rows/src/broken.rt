@@ -4,14 +4,16 @@ use heco_nums::{Bytes, Memory};
 use std::alloc::Global;
 use std::test::Fail;
 
-// A file; where its bytes are replaced, from and to, and by which; and what reading answers. The last two rows change nothing.
+// A file; where its bytes are replaced, from and to, and by which; and what reading answers. The last three rows change nothing.
 const SPLICED: &str = "dot 42 43 00 malformed at 41
 dot 39 40 03 malformed at 36
 dot 39 40 00 malformed at 36
 dot 101 102 02 malformed at 98
 dot 103 104 08 malformed at 102
 dot 104 104 00 malformed at 104
-dot 4 5 02 malformed at 4
+dot 4 5 02 malformed at 88
+dot 4 5 03 malformed at 4
+dot 4 5 00 malformed at 4
 dot 5 6 06 malformed at 5
 dot 6 8 0101 malformed at 6
 dot 11 12 00 malformed at 8
@@ -27,8 +29,16 @@ dot 97 98 02 malformed at 97
 dot 15 20 0000000161 malformed at 19
 dot 13 15 0009 malformed at 13
 copy 18 19 01 malformed at 19
+copy 4 5 02 malformed at 19
+less 4 5 01 malformed at 26
+less 4 5 03 malformed at 4
+less 26 27 02 malformed at 35
+less 27 31 00000002 malformed at 27
+less 31 35 00000002 malformed at 31
+less 35 37 00ff malformed at 35
 squares 0 1 48 the bound 863747166108134268821 of gate 6 passes
-copy 0 1 48 read";
+copy 0 1 48 read
+less 0 1 48 read";
 
 // Where the fields of the dot product begin.
 const STARTS: &str =

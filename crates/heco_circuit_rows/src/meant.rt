@@ -5,9 +5,13 @@ use std::alloc::Global;
 use std::test::Fail;
 
 // A circuit, the slots of its inputs, and those of its outputs. The first is 8 + 14 + 18 + 20 + 20 + 18 + 14 + 8; in the
-// second slot 2 of the products is 18, and 200 * 18 + 256 is 1 modulo 257, and 1 - 1 is 0.
+// second slot 2 of the products is 18, and 200 * 18 + 256 is 1 modulo 257, and 1 - 1 is 0; the last are 3 - 5, 5 - 3
+// and 3 - 3 * 5 modulo 257.
 const ROWS: &str = "dot|1 2 3 4 5 6 7 8;8 7 6 5 4 3 2 1|120;
-each|1 2 3 4 5 6 7 8;8 7 6 5 4 3 2 1|1 5;0;";
+each|1 2 3 4 5 6 7 8;8 7 6 5 4 3 2 1|1 5;0;
+less|3;5|255;
+less|5;3|2;
+mixed|3;5|245;";
 
 fn numbers(alloc: Global, text: &str) -> Result<List<u32>, Fail> {
     let mut numbers = List::new(alloc);

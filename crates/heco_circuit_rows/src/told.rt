@@ -10,6 +10,11 @@ each bounds 4754; 4754; 4754; 9508; 97975829; 98691317; 5625405069; 5625405197; 
 dot bounds 4754; 4754; 97975829; 98691317; 99406805; 198098122; 198813610; 396911732; 397627220; 794538952;
 dot keys relin; 1; 2; 4;
 five keys none;
+less gates Sub { a: 0, b: 1 };
+less bounds 4754; 4754; 9508;
+less keys none;
+mixed bounds 4754; 4754; 97975829; 97980583; 98696071;
+mixed keys relin;
 copy gates";
 
 fn gates_of(alloc: Global, c: &Circuit) -> Result<String, Fail> {
@@ -75,7 +80,7 @@ fn is_kept(alloc: Global, name: &str) -> Result<bool, Fail> {
 
 #[test]
 fn each_file_is_written_again(rt: HostRuntime) -> Result<(), Fail> {
-    for name in "dot copy five each".split(' ') {
+    for name in "dot copy five each less mixed".split(' ') {
         assert!(rt; is_kept(rt.alloc(), name)?, "{name}");
     }
     Ok(())

@@ -13,17 +13,17 @@ const INPUT: &str = "a = 1 2 3 4 5 6 7 8\nb = 1 1 1 1 1 1 1 1\n";
 
 // Commands one after another over the same files: the words, each read with the number of bytes asked for, and how many
 // pieces were printed. A limit is one byte more than the longest file that is accepted, so that a longer one is seen.
-const ROWS: &str = "plain f i|f 65537$i 4194305$|1
-plain f none|f 65537$none 4194305$|0
-compile f c|f 65537$|0
+const ROWS: &str = "plain f i|f 1048577$i 4194305$|1
+plain f none|f 1048577$none 4194305$|0
+compile f c|f 1048577$|0
 show c|c 536870912$|1
 draw c 7 k e|c 536870912$|0
 keys c k s v|c 536870912$k 16865$|0
 encrypt c v e i t|c 536870912$v 59672$e 97$i 4194305$|0
 run c v t r|c 536870912$v 59672$t 523$|0
 decrypt c s r|c 536870912$s 23$r 267$|1
-exec f i k e c2 s2 v2 t2 r2|f 65537$i 4194305$k 16865$e 97$|1
-exec f none k e c2 s2 v2 t2 r2|f 65537$none 4194305$|0
+exec f i k e c2 s2 v2 t2 r2|f 1048577$i 4194305$k 16865$e 97$|1
+exec f none k e c2 s2 v2 t2 r2|f 1048577$none 4194305$|0
 show f|f 536870912$|0
 plain f f||0";
 

@@ -89,6 +89,9 @@ const RUN: &str =
 0|0|start;run dot v c r;picker last;run dot v c r1;picker drawn;run dot v c r2;same r1 r;same r2 r|0||
 0|0|draw copy 7 k e;keys copy k s v;put i x = 5;encrypt copy v e i c;run copy v c r;copy w c;set w 0 48524553;same r w;decrypt copy s r|0||y = 5$
 0|0|draw five 1 k e;keys five k s v;put i ;encrypt five v e i c;run five v c r;length r 10;decrypt five s r|0||y = 5$
+0|0|hex d 484349520201000200000001780001000000017a00010000000103000000000000000100010000000179000101000000020000;draw d 1 k e;keys d k s v;put i x = 3$z = 5;encrypt d v e i c;run d v c r;decrypt d s r|0||y = 255$
+0|0|hex d 484349520201000200000001780001000000017a000100000003040000000000000001030000000000000002050000000300010000000179000101000000040000;draw d 1 k e;keys d k s v;put i x = 3$z = 5;encrypt d v e i c;run d v c r;decrypt d s r|0||y = 245$
+0|0|hex d 484349520201000200000001780001000000017a00010000000103000000000000000100010000000179000101000000020000;set d 4 01;run d v c r;absent r|3|d: Malformed at 26$|
 0|0|start;hex w 48434952010100010000000161000800000004040000000000000000050000000108000100000002080004000000020000;draw w 1 kw ew;keys w kw sw vw;run dot vw no r;absent r|3|vw: MissingKey 2$|
 0|0|start;hex w 48434952010100010000000161000800000001080001000000000000;draw w 1 kw ew;keys w kw sw vw;run dot vw no r;absent r|3|vw: MissingRelin$|
 0|0|hex c32 4843495201020001000000017800010000000000010000000179000101000000000000;hex c4 4843495201040001000000017800010000000000010000000179000101000000000000;draw c4 7 k e;keys c4 k s v;run c32 v no r;absent r|3|v: WrongPreset want 2 found 4$|
@@ -112,6 +115,7 @@ const RUN: &str =
 0|1|start;run dot v c r|0||";
 
 const DECRYPT: &str = "0|0|set copy 18 01;show copy|3|copy: Malformed at 19$|
+0|0|set dot 4 02;show dot|3|dot: Malformed at 88$|
 0|0|start;cut copy 34;decrypt copy s r|3|copy: Malformed at 33$|
 0|0|start;set s 0 00;decrypt copy s r|3|s: Malformed at 0$|
 0|0|start;set s 5 02;decrypt copy s r|3|s: WrongPreset want 1 found 2$|

@@ -32,11 +32,12 @@ f(in x, out y) { // y = 1;$ y = x; // }$}$// end|x = 7|y = 7$||0
 params p8;$fn f(in x, out y) {$for i in 0..131071 { y = 1; }$y = 2;$}|x = 1|y = 2$||0
 params p8;$fn f(in x, out y) {$y = `64*(`x`64*)`;$}|x = 9|y = 9$||0
 f(in x, out y) { for a in 0..1 { for b in 0..1 { for c in 0..1 { for d in 0..1 { for e in 0..1 { for g in 0..1 { for h in 0..1 { y += x; } } } } } } } }|x = 9|y = 9$||0
-params p8;fn f(in x, out y) { y = x; }`65498* `|x = 9|y = 9$||0
-`65537* `|||f.he: SourceLong$|1
-`65537*@`|||f.he: SourceLong$|1
-`65536* `|||f.he:1:65537: Syntax$|1
-params p8;fn f(in x, out y) { y = x; }`65499* `|||f.he: SourceLong$|1
+params p8;fn f(in x, out y) { y = x; }`1048538* `|x = 9|y = 9$||0
+`1048577* `|||f.he: SourceLong$|1
+`1048577*@`|||f.he: SourceLong$|1
+`1048576* `|||f.he:1:1048577: Syntax$|1
+`65537* `|||f.he:1:65538: Syntax$|1
+params p8;fn f(in x, out y) { y = x; }`1048539* `|||f.he: SourceLong$|1
 |||f.he:1:1: Syntax$|1
 params p8;|||f.he:1:11: Syntax$|1
 params p8;$|||f.he:2:1: Syntax$|1
@@ -59,6 +60,8 @@ f(in x, out y) { for i in x..2 { y = 1; } }|||f.he:1:41: SecretBound$|1
 params p8;$fn f(in x, out y) {$  int k = x;$}|||f.he:3:11: SecretToPublic$|1
 f(in a[9], out y) { y = a[0]; }|||f.he:1:22: Length$|1
 f(in x, out y) { int w[2] = {x}; }|||f.he:1:38: Length$|1
+params p8; def sq(x) = x*x; fn f(in a, out s) { s = sq(); }|||f.he:1:53: Length$|1
+params p8; def d1(x) = x; def d2(x) = d1(x); def d3(x) = d2(x); def d4(x) = d3(x); def d5(x) = d4(x); def d6(x) = d5(x); def d7(x) = d6(x); def d8(x) = d7(x); def d9(x) = d8(x); fn f(in x, out y) { y = d9(x); }|||f.he:1:172: TooNested$|1
 params p8;$fn f(in a[8], out y) {$  for i in 0..9 { y += a[i]; }$}|a = 1 2 3 4 5 6 7 8$||f.he:3:24: IndexRange$|1
 f(in a[8], out y) { y = a[0-1]; }|a = 1 2 3 4 5 6 7 8$||f.he:1:39: IndexRange$|1
 params p8;$fn f(in x, out y) {$int k = 65536 * 65536;$}|x = 1||f.he:3:15: PublicRange$|1

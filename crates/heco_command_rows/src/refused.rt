@@ -28,7 +28,7 @@ f(in x, out y) { y = x; }|none|4|f.in: read fault
 f(in x, out y) { y = x; }|x = 1|4|k: read fault";
 
 // The same of texts that are too long, and of too many steps.
-const LONG: &str = "`65537* `|none|1|f.he: SourceLong
+const LONG: &str = "`1048577* `|none|1|f.he: SourceLong
 f(in x, out y) { y = x; }|`4194305* `|3|f.in: InputLong
 params p8;$fn f(in x, out y) {$for i in 0..131071 { y = 1; }$y = 2;$y = 3;$}|none|1|f.he:5:1: TooLarge";
 

@@ -28,6 +28,8 @@ f(in a, in b, in c, in d, out y) { y = a*b + c*d; }|4|196667146|relin
 f(in a[8], in b[8], out s) { for i in 0..8 { s += (a[i]-b[i])*(a[i]-b[i]); } }|10|1578302408|relin 1 2 4
 params p64; fn blur(in img[64], out o[64]) { for x in 1..7 { for y in 1..7 { for i in 0..3 { for j in 0..3 { o[x*8+y] += img[(x+i-1)*8 + y+j-1]; } } } } }|8|91740900| 1 2 8 16
 f(in x[3], out y) { int w[3] = {2, 3, 1}; for i in 0..3 { y += w[i]*x[i]; } }|6|1459500| 1 2
+params p8; def sq(x) = x*x; fn f(in a[8], in b[8], out s) { for i in 0..8 { s += sq(a[i]-b[i]); } }|10|1578302408|relin 1 2 4
+f(in a[8], out y[8]) { for i in 0..8 { if i { y[i] = a[i-1]; } else { y[i] = a[7]; } } }|0|0|
 f(in a, in b, out y) { y = 2*(a*b); }|3|197382634|relin
 f(in a, in b, out y) { y = a*b + 1; }|3|98691445|relin
 f(in a, in b, in c, out y) { y = c - a*b; }|4|98696071|relin

@@ -13,6 +13,7 @@ use Rattle.heco_execution.specs.Plain.{outputs_over}
 use Rattle.heco_execution.specs.Secrets.{Secrets, Stored, storeless}
 use Rattle.heco_execution.specs.States.{State, nothing, list_of}
 use Rattle.heco_execution.specs.Steps.{Step, give, then}
+use Rattle.heco_execution.specs.Evaluation.{calls_of}
 use Rattle.heco_execution.specs.Execution.{run_all}
 use Rattle.heco_execution.specs.Whole.{opened, as_secrets, with_output, outputs, execute}
 
@@ -59,8 +60,8 @@ module _ {S V : Type 0} (ops : Stored S V) where
   execute_count : (source : Source) (rows : List (List V)) → Gives (λ out. length out ≡ length (shapes_of true source.ports)) (execute ops source rows)
   unfolding execute
   execute_count source rows =
-      then_gives {A = State V} (λ a. Unit {0}) (λ out. length out ≡ length (shapes_of true source.ports)) (opened ops source.ports rows nothing) (λ start. then (run_all ops source.body start) (λ end. outputs ops source.ports end []))
-      (λ p q x e. tt) (λ start h. then_gives {A = State V} (λ a. Unit {0}) (λ out. length out ≡ length (shapes_of true source.ports)) (run_all ops source.body start) (λ end. outputs ops source.ports end [])
+      then_gives {A = State V} (λ a. Unit {0}) (λ out. length out ≡ length (shapes_of true source.ports)) (opened ops source.ports rows nothing) (λ start. then (run_all ops (calls_of ops source.defs) source.body start) (λ end. outputs ops source.ports end []))
+      (λ p q x e. tt) (λ start h. then_gives {A = State V} (λ a. Unit {0}) (λ out. length out ≡ length (shapes_of true source.ports)) (run_all ops (calls_of ops source.defs) source.body start) (λ end. outputs ops source.ports end [])
       (λ p q x e. tt) (λ end h p q x e. let c = outputs_count source.ports end [] p q x e in omega (arith, c)))
 
 abbrev start : Progress (Unit {0})

@@ -6,5 +6,5 @@ mod keys;
 mod laws;
 
 pub use chain::chain_product;
-pub use keys::read_key_words;
+pub use keys::{made_keys, read_key_words};
 pub use laws::{done_is_executed, given_is_ready};

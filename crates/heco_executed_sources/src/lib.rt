@@ -4,6 +4,8 @@
 #[cfg(test)]
 mod answer;
 #[cfg(test)]
+mod definitions;
+#[cfg(test)]
 mod limits;
 #[cfg(test)]
 mod rows;

@@ -1,5 +1,8 @@
 -- Evaluations follow one another where the secrets' operations do.
-use Rattle.std.proofs.Common.{◌≡◌, ◌∙◌, refl, ap, subst, ℕ, zero, suc, ◌-ℤ◌, ℤ, pos, List, [], ◌∷◌, map, Some, None, Ok, Err, slice_get, slice_index_or}
+use Rattle.std.proofs.Common.{◌≡◌, ◌∙◌, refl, ap, subst, ℕ, zero, suc, ◌-ℤ◌, ℤ, pos, List, [], ◌∷◌, map, Some, None, Ok, Err, slice_get, slice_index_or, ◌++◌, Bool, true, false, cond, take, replicate, slice_set}
+use Rattle.std.specs.List.{list_any}
+use Rattle.std.specs.Str.{bytes_eq}
+use Rattle.heco_syntax.specs.declared.tree.Def.{Def}
 use Rattle.std.specs.declared.option.Option.{Option}
 use Rattle.heco_lex.specs.declared.place.Place.{Place}
 use Rattle.heco_syntax.specs.declared.tree.Ident.{Ident}
@@ -15,9 +18,9 @@ use Rattle.heco_execution.specs.declared.value.Operator.{Operator}
 use Rattle.heco_execution.specs.declared.value.Operator.TheVariants.{Plus, Minus, Times}
 use Rattle.heco_execution.specs.Outcomes.{Outcome, after, in_range}
 use Rattle.heco_execution.specs.Secrets.{Secrets, Stored, storeless}
-use Rattle.heco_execution.specs.States.{State, place_of, found, index_of, element}
+use Rattle.heco_execution.specs.States.{State, nothing, with_list, declared, place_of, found, index_of, element}
 use Rattle.heco_execution.specs.Steps.{Step, give, then, make}
-use Rattle.heco_execution.specs.Evaluation.{Evaluation, Part, on_whole, public, item, on_secrets, as_secret, secret_result, operate, opposite, along, layer, sum_layer, product_layer, evaluate, sum_part, product_part}
+use Rattle.heco_execution.specs.Evaluation.{Calls, Meaning, no_calls, called, in_turn, is_secret, with_arguments, called_with, meaning, with_definition, definitions_after, calls_of, Evaluation, Part, on_whole, public, item, on_secrets, as_secret, secret_result, operate, opposite, along, layer, sum_layer, product_layer, evaluate, sum_part, product_part}
 use Rattle.heco_execution.proofs.Following.{AllLike, Agree, agree_same, IsGrowth, Follows, Lasts, then_follows, give_follows, test_follows, counted_follows, make_follows}
 
 -- the operations keep the correspondence
@@ -88,6 +91,68 @@ module _ {V W : Type 0} (R : V → W → Type 0) where
       (agree_same ElementLike (index_of name.at j) _ _ (λ k.
       agree_same ElementLike (found name.at (place_of name.text t.texts)) _ _ (λ n.
       found_agrees name.at n k _ _ (get_like _ _ k (held_like s.lists t.lists n like.lists)))))
+
+module _ {A B : Type 0} (Q : A → B → Type 0) where
+  pub append_like : (xs zs : List A) (ys ws : List B) → AllLike Q xs ys → AllLike Q zs ws → AllLike Q (xs ++ zs) (ys ++ ws)
+  append_like [] zs [] ws h k = k
+  append_like (x ∷ xs) zs (y ∷ ys) ws h k = (h.0, append_like xs zs ys ws h.1 k)
+  append_like [] zs (y ∷ ys) ws h k = absurd h
+  append_like (x ∷ xs) zs [] ws h k = absurd h
+
+  pub take_like : (n : ℕ) (xs : List A) (ys : List B) → AllLike Q xs ys → AllLike Q (take n xs) (take n ys)
+  take_like zero xs ys h = tt
+  take_like (suc n) [] [] h = tt
+  take_like (suc n) (x ∷ xs) (y ∷ ys) h = (h.0, take_like n xs ys h.1)
+  take_like (suc n) [] (y ∷ ys) h = absurd h
+  take_like (suc n) (x ∷ xs) [] h = absurd h
+
+  pub set_like : (xs : List A) (ys : List B) (n : ℕ) (x : A) (y : B) → AllLike Q xs ys → Q x y → AllLike Q (slice_set xs n x) (slice_set ys n y)
+  set_like [] [] n x y h k = tt
+  set_like (v ∷ xs) (w ∷ ys) zero x y h k = (k, h.1)
+  set_like (v ∷ xs) (w ∷ ys) (suc n) x y h k = (h.0, set_like xs ys n x y h.1 k)
+  set_like [] (w ∷ ys) n x y h k = absurd h
+  set_like (v ∷ xs) [] n x y h k = absurd h
+
+  pub replicate_like : (n : ℕ) (x : A) (y : B) → Q x y → AllLike Q (replicate n x) (replicate n y)
+  replicate_like zero x y k = tt
+  replicate_like (suc n) x y k = (k, replicate_like n x y k)
+
+module _ {V W : Type 0} (R : V → W → Type 0) where
+  with_like : (x : State V) (y : State W) (text : List ℕ) (vs : List (Value V)) (ws : List (Value W)) (o : Option ℕ) → StateLike R x y → AllLike (ValueLike R) vs ws
+      → StateLike R (with_list x text vs o) (with_list y text ws o)
+  with_like x y text vs ws None h k = record {
+    texts = ap (λ t. t ++ text ∷ []) h.texts;
+    lists = append_like (AllLike (ValueLike R)) x.lists (vs ∷ []) y.lists (ws ∷ []) h.lists (k, tt);
+  }
+  with_like x y text vs ws (Some i) h k = record { texts = h.texts; lists = set_like (AllLike (ValueLike R)) x.lists y.lists i vs ws h.lists k }
+
+  pub declared_like : (x : State V) (y : State W) (text : List ℕ) (vs : List (Value V)) (ws : List (Value W)) → StateLike R x y → AllLike (ValueLike R) vs ws
+      → StateLike R (declared x text vs) (declared y text ws)
+  unfolding declared
+  declared_like x y text vs ws h k =
+      subst (λ t. StateLike R (with_list x text vs (place_of text x.texts)) (with_list y text ws (place_of text t))) h.texts (with_like x y text vs ws (place_of text x.texts) h k)
+
+  -- the parameters with corresponding arguments
+  pub arguments_like : (params : List Ident) (vs : List (Value V)) (ws : List (Value W)) (x : State V) (y : State W) → AllLike (ValueLike R) vs ws → StateLike R x y
+      → StateLike R (with_arguments params vs x) (with_arguments params ws y)
+  arguments_like [] vs ws x y h k = k
+  arguments_like (p ∷ params) [] [] x y h k = k
+  arguments_like (p ∷ params) (v ∷ vs) (w ∷ ws) x y h k = arguments_like params vs ws _ _ h.1 (declared_like x y p.text (v ∷ []) (w ∷ []) k (h.0, tt))
+  arguments_like (p ∷ params) [] (w ∷ ws) x y h k = absurd h
+  arguments_like (p ∷ params) (v ∷ vs) [] x y h k = absurd h
+
+  secret_like : (v : Value V) (w : Value W) → ValueLike R v w → is_secret v ≡ is_secret w
+  secret_like (Public m) (Public n) e = refl
+  secret_like (Secret v) (Secret w) e = refl
+  secret_like (Public m) (Secret w) e = absurd e
+  secret_like (Secret v) (Public n) e = absurd e
+
+  -- as many of them are secret
+  pub any_like : (vs : List (Value V)) (ws : List (Value W)) → AllLike (ValueLike R) vs ws → list_any is_secret vs ≡ list_any is_secret ws
+  any_like [] [] h = refl
+  any_like (v ∷ vs) (w ∷ ws) h = rw (secret_like v w h.0, any_like vs ws h.1) refl
+  any_like [] (w ∷ ws) h = absurd h
+  any_like (v ∷ vs) [] h = absurd h
 
 module _ {S V W : Type 0} (a : Stored S V) (b : Secrets W) (Grows : S → S → Type 0) (R : S → V → W → Type 0) (same : AreFollowed a b Grows R) where
   abbrev pub Values : S → Value V → Value W → Type 0
@@ -202,6 +267,30 @@ module _ {S V W : Type 0} (a : Stored S V) (b : Secrets W) (Grows : S → S → 
     pub at : p.at ≡ q.at
     pub of : Evaluates p.of q.of
 
+  -- the one meaning follows the other over corresponding arguments
+  abbrev pub Means : Meaning S V → Meaning (Unit {0}) W → Type 0
+  Means m n = (s : S) (vs : List (Value V)) (ws : List (Value W)) → Lists s vs ws → Follows Grows Values s (m vs) (n ws)
+
+  -- calls of each name follow one another
+  abbrev pub CallsFollow : Calls S V → Calls (Unit {0}) W → Type 0
+  CallsFollow c d = (text : List ℕ) → Means (c text) (d text)
+
+  pub in_turn_follows : (es : List (Evaluation S V)) (fs : List (Evaluation (Unit {0}) W)) → AllLike Evaluates es fs → (s : S) (x : State V) (y : State W) (done : List (Value V)) (done' : List (Value W))
+      → States s x y → Lists s done done' → Follows Grows Lists s (in_turn es x done) (in_turn fs y done')
+  in_turn_follows [] [] m s x y done done' like h = give_follows Grows R same.growth Lists lists_last s done done' h
+  in_turn_follows (e ∷ es) (f ∷ fs) m s x y done done' like h =
+      then_follows Grows R same.growth Values Lists s (e x) (f y) (λ v. in_turn es x (done ++ v ∷ [])) (λ w. in_turn fs y (done' ++ w ∷ [])) (m.0 s x y like)
+      (λ t v w grown c. in_turn_follows es fs m.1 t x y _ _ (states_last s t x y grown like)
+      (append_like (ValueLike (R t)) done (v ∷ []) done' (w ∷ []) (lists_last s t done done' grown h) (c, tt)))
+  in_turn_follows [] (f ∷ fs) m s x y done done' like h = absurd m
+  in_turn_follows (e ∷ es) [] m s x y done done' like h = absurd m
+
+  called_follows : (c : Calls S V) (d : Calls (Unit {0}) W) → CallsFollow c d → (name : Ident) (es : List (Evaluation S V)) (fs : List (Evaluation (Unit {0}) W)) → AllLike Evaluates es fs
+      → Evaluates (called c name es) (called d name fs)
+  called_follows c d h name es fs m s x y like =
+      then_follows Grows R same.growth Lists Values s (in_turn es x []) (in_turn fs y []) _ _ (in_turn_follows es fs m s x y [] [] like tt)
+      (λ t vs ws grown l. counted_follows Grows R same.growth Values t 1 name.at _ _ (λ t' more. h name.text t' vs ws (lists_last t t' vs ws more l)))
+
   along_follows : (ps : List (Part S V)) (qs : List (Part (Unit {0}) W)) → AllLike PartFollows ps qs → (s : S) (x : State V) (y : State W) (v : Value V) (w : Value W)
       → States s x y → Values s v w → Follows Grows Values s (along a ps x v) (along (storeless b) qs y w)
   along_follows [] [] m s x y v w like e = give_follows Grows R same.growth Values values_last s v w e
@@ -217,78 +306,113 @@ module _ {S V W : Type 0} (a : Stored S V) (b : Secrets W) (Grows : S → S → 
   along_follows [] (q ∷ qs) m s x y v w like e = absurd m
   along_follows (p ∷ ps) [] m s x y v w like e = absurd m
 
-  abbrev IsFollowed : Expr → Type 0
-  IsFollowed e = Evaluates (evaluate a e) (evaluate (storeless b) e)
+  module _ (c : Calls S V) (d : Calls (Unit {0}) W) (calls : CallsFollow c d) where
+    abbrev IsFollowed : Expr → Type 0
+    IsFollowed e = Evaluates (evaluate a c e) (evaluate (storeless b) d e)
 
-  abbrev SumFollowed : SumPart → Type 0
-  SumFollowed p = PartFollows (sum_part a p) (sum_part (storeless b) p)
+    abbrev SumFollowed : SumPart → Type 0
+    SumFollowed p = PartFollows (sum_part a c p) (sum_part (storeless b) d p)
 
-  abbrev ProductFollowed : ProdPart → Type 0
-  ProductFollowed p = PartFollows (product_part a p) (product_part (storeless b) p)
+    abbrev ProductFollowed : ProdPart → Type 0
+    ProductFollowed p = PartFollows (product_part a c p) (product_part (storeless b) d p)
 
-  sums_follow : (ys : List ((p : SumPart) × SumFollowed p)) → AllLike PartFollows (map (sum_part a) (map (λ y. y.0) ys)) (map (sum_part (storeless b)) (map (λ y. y.0) ys))
-  sums_follow [] = tt
-  sums_follow (y ∷ ys) = (y.1, sums_follow ys)
+    sums_follow : (ys : List ((p : SumPart) × SumFollowed p)) → AllLike PartFollows (map (sum_part a c) (map (λ y. y.0) ys)) (map (sum_part (storeless b) d) (map (λ y. y.0) ys))
+    sums_follow [] = tt
+    sums_follow (y ∷ ys) = (y.1, sums_follow ys)
 
-  products_follow : (ys : List ((p : ProdPart) × ProductFollowed p)) → AllLike PartFollows (map (product_part a) (map (λ y. y.0) ys)) (map (product_part (storeless b)) (map (λ y. y.0) ys))
-  products_follow [] = tt
-  products_follow (y ∷ ys) = (y.1, products_follow ys)
+    products_follow : (ys : List ((p : ProdPart) × ProductFollowed p)) → AllLike PartFollows (map (product_part a c) (map (λ y. y.0) ys)) (map (product_part (storeless b) d) (map (λ y. y.0) ys))
+    products_follow [] = tt
+    products_follow (y ∷ ys) = (y.1, products_follow ys)
 
-  -- what the layer is of which y has the proofs
-  abbrev bare : Expr-F ((e : Expr) × IsFollowed e) ((p : ProdPart) × ProductFollowed p) ((p : SumPart) × SumFollowed p) → Expr-F Expr ProdPart SumPart
-  bare y = map-Expr _ _ _ _ _ _ (λ e. e.0) (λ e. e.0) (λ e. e.0) y
+    args_follow : (ys : List ((e : Expr) × IsFollowed e)) → AllLike Evaluates (map (evaluate a c) (map (λ y. y.0) ys)) (map (evaluate (storeless b) d) (map (λ y. y.0) ys))
+    args_follow [] = tt
+    args_follow (y ∷ ys) = (y.1, args_follow ys)
 
-  abbrev evaluated : {T U : Type 0} → Stored T U → Expr-F Expr ProdPart SumPart → Expr-F (Evaluation T U) (Part T U) (Part T U)
-  evaluated s x = map-Expr _ _ _ _ _ _ (evaluate s) (product_part s) (sum_part s) x
+    -- what the layer is of which y has the proofs
+    abbrev bare : Expr-F ((e : Expr) × IsFollowed e) ((p : ProdPart) × ProductFollowed p) ((p : SumPart) × SumFollowed p) → Expr-F Expr ProdPart SumPart
+    bare y = map-Expr _ _ _ _ _ _ (λ e. e.0) (λ e. e.0) (λ e. e.0) y
 
-  layer_follows : (y : Expr-F ((e : Expr) × IsFollowed e) ((p : ProdPart) × ProductFollowed p) ((p : SumPart) × SumFollowed p))
-      → Evaluates (layer a (evaluated a (bare y))) (layer (storeless b) (evaluated (storeless b) (bare y)))
-  layer_follows (Expr-F.Lit n) s x z like = public_follows s n.at (pos n.value)
-  layer_follows (Expr-F.One name) s x z like = item_follows s name x z (Public (pos 0)) (Public (pos 0)) like refl
-  layer_follows (Expr-F.Item name index) s x z like =
-      then_follows Grows R same.growth Values Values s _ _ (item name x) (item name z) (index.1 s x z like)
-      (λ t v w grown c. item_follows t name x z v w (states_last s t x z grown like) c)
-  layer_follows (Expr-F.Neg at of) s x z like =
-      then_follows Grows R same.growth Values Values s _ _ _ _ (of.1 s x z like)
-      (λ t v w grown c. counted_follows Grows R same.growth Values t 1 at _ _ (λ t' more. opposite_follows t' at v w (values_last t t' v w more c)))
-  layer_follows (Expr-F.Sum first rest) s x z like =
-      then_follows Grows R same.growth Values Values s _ _ _ _ (first.1 s x z like)
-      (λ t v w grown c. along_follows _ _ (sums_follow rest) t x z v w (states_last s t x z grown like) c)
-  layer_follows (Expr-F.Prod first rest) s x z like =
-      then_follows Grows R same.growth Values Values s _ _ _ _ (first.1 s x z like)
-      (λ t v w grown c. along_follows _ _ (products_follow rest) t x z v w (states_last s t x z grown like) c)
+    abbrev evaluated : {T U : Type 0} → Stored T U → Calls T U → Expr-F Expr ProdPart SumPart → Expr-F (Evaluation T U) (Part T U) (Part T U)
+    evaluated s cs x = map-Expr _ _ _ _ _ _ (evaluate s cs) (product_part s cs) (sum_part s cs) x
 
-  equal_follow : (f f' : Evaluation S V) (g g' : Evaluation (Unit {0}) W) → f ≡ f' → g ≡ g' → Evaluates f' g' → Evaluates f g
-  equal_follow f f' g g' e k h = rw (e, k) h
+    layer_follows : (y : Expr-F ((e : Expr) × IsFollowed e) ((p : ProdPart) × ProductFollowed p) ((p : SumPart) × SumFollowed p))
+        → Evaluates (layer a c (evaluated a c (bare y))) (layer (storeless b) d (evaluated (storeless b) d (bare y)))
+    layer_follows (Expr-F.Lit n) s x z like = public_follows s n.at (pos n.value)
+    layer_follows (Expr-F.One name) s x z like = item_follows s name x z (Public (pos 0)) (Public (pos 0)) like refl
+    layer_follows (Expr-F.Item name index) s x z like =
+        then_follows Grows R same.growth Values Values s _ _ (item name x) (item name z) (index.1 s x z like)
+        (λ t v w grown l. item_follows t name x z v w (states_last s t x z grown like) l)
+    layer_follows (Expr-F.Neg at of) s x z like =
+        then_follows Grows R same.growth Values Values s _ _ _ _ (of.1 s x z like)
+        (λ t v w grown l. counted_follows Grows R same.growth Values t 1 at _ _ (λ t' more. opposite_follows t' at v w (values_last t t' v w more l)))
+    layer_follows (Expr-F.Sum first rest) s x z like =
+        then_follows Grows R same.growth Values Values s _ _ _ _ (first.1 s x z like)
+        (λ t v w grown l. along_follows _ _ (sums_follow rest) t x z v w (states_last s t x z grown like) l)
+    layer_follows (Expr-F.Prod first rest) s x z like =
+        then_follows Grows R same.growth Values Values s _ _ _ _ (first.1 s x z like)
+        (λ t v w grown l. along_follows _ _ (products_follow rest) t x z v w (states_last s t x z grown like) l)
+    layer_follows (Expr-F.Call name args) s x z like = called_follows c d calls name _ _ (args_follow args) s x z like
 
-  rolled_follows : (y : Expr-F ((e : Expr) × IsFollowed e) ((p : ProdPart) × ProductFollowed p) ((p : SumPart) × SumFollowed p)) → IsFollowed (roll-Expr (bare y))
-  rolled_follows y =
-      equal_follow _ _ _ _
-      (fold-roll-Expr (Evaluation S V) (Part S V) (Part S V) (layer a) (product_layer a) (sum_layer a) (bare y))
-      (fold-roll-Expr (Evaluation (Unit {0}) W) (Part (Unit {0}) W) (Part (Unit {0}) W) (layer (storeless b)) (product_layer (storeless b)) (sum_layer (storeless b)) (bare y))
-      (layer_follows y)
+    equal_follow : (f f' : Evaluation S V) (g g' : Evaluation (Unit {0}) W) → f ≡ f' → g ≡ g' → Evaluates f' g' → Evaluates f g
+    equal_follow f f' g g' e k h = rw (e, k) h
 
-  equal_parts : (p p' : Part S V) (q q' : Part (Unit {0}) W) → p ≡ p' → q ≡ q' → PartFollows p' q' → PartFollows p q
-  equal_parts p p' q q' e f m = rw (e, f) m
+    rolled_follows : (y : Expr-F ((e : Expr) × IsFollowed e) ((p : ProdPart) × ProductFollowed p) ((p : SumPart) × SumFollowed p)) → IsFollowed (roll-Expr (bare y))
+    rolled_follows y =
+        equal_follow _ _ _ _
+        (fold-roll-Expr (Evaluation S V) (Part S V) (Part S V) (layer a c) (product_layer a) (sum_layer a) (bare y))
+        (fold-roll-Expr (Evaluation (Unit {0}) W) (Part (Unit {0}) W) (Part (Unit {0}) W) (layer (storeless b) d) (product_layer (storeless b)) (sum_layer (storeless b)) (bare y))
+        (layer_follows y)
 
-  product_followed : (y : ProdPart-F ((e : Expr) × IsFollowed e) ((p : ProdPart) × ProductFollowed p) ((p : SumPart) × SumFollowed p))
-      → ProductFollowed (roll-ProdPart (map-ProdPart _ _ _ _ _ _ (λ e. e.0) (λ e. e.0) (λ e. e.0) y))
-  product_followed y =
-      equal_parts _ _ _ _
-      (fold-roll-ProdPart (Evaluation S V) (Part S V) (Part S V) (layer a) (product_layer a) (sum_layer a) _)
-      (fold-roll-ProdPart (Evaluation (Unit {0}) W) (Part (Unit {0}) W) (Part (Unit {0}) W) (layer (storeless b)) (product_layer (storeless b)) (sum_layer (storeless b)) _)
-      (record { operator = refl; at = refl; of = y.of.1 })
+    equal_parts : (p p' : Part S V) (q q' : Part (Unit {0}) W) → p ≡ p' → q ≡ q' → PartFollows p' q' → PartFollows p q
+    equal_parts p p' q q' e f m = rw (e, f) m
 
-  sum_followed : (y : SumPart-F ((e : Expr) × IsFollowed e) ((p : ProdPart) × ProductFollowed p) ((p : SumPart) × SumFollowed p))
-      → SumFollowed (roll-SumPart (map-SumPart _ _ _ _ _ _ (λ e. e.0) (λ e. e.0) (λ e. e.0) y))
-  sum_followed y =
-      equal_parts _ _ _ _
-      (fold-roll-SumPart (Evaluation S V) (Part S V) (Part S V) (layer a) (product_layer a) (sum_layer a) _)
-      (fold-roll-SumPart (Evaluation (Unit {0}) W) (Part (Unit {0}) W) (Part (Unit {0}) W) (layer (storeless b)) (product_layer (storeless b)) (sum_layer (storeless b)) _)
-      (record { operator = refl; at = refl; of = y.of.1 })
+    product_followed : (y : ProdPart-F ((e : Expr) × IsFollowed e) ((p : ProdPart) × ProductFollowed p) ((p : SumPart) × SumFollowed p))
+        → ProductFollowed (roll-ProdPart (map-ProdPart _ _ _ _ _ _ (λ e. e.0) (λ e. e.0) (λ e. e.0) y))
+    product_followed y =
+        equal_parts _ _ _ _
+        (fold-roll-ProdPart (Evaluation S V) (Part S V) (Part S V) (layer a c) (product_layer a) (sum_layer a) _)
+        (fold-roll-ProdPart (Evaluation (Unit {0}) W) (Part (Unit {0}) W) (Part (Unit {0}) W) (layer (storeless b) d) (product_layer (storeless b)) (sum_layer (storeless b)) _)
+        (record { operator = refl; at = refl; of = y.of.1 })
 
-  pub evaluate_follows : (e : Expr) → IsFollowed e
-  evaluate_follows = ind-Expr IsFollowed ProductFollowed SumFollowed
-      (λ x y is. subst (λ z. IsFollowed (roll-Expr z)) is (rolled_follows y))
-      (λ x y is. subst (λ z. ProductFollowed (roll-ProdPart z)) is (product_followed y))
-      (λ x y is. subst (λ z. SumFollowed (roll-SumPart z)) is (sum_followed y))
+    sum_followed : (y : SumPart-F ((e : Expr) × IsFollowed e) ((p : ProdPart) × ProductFollowed p) ((p : SumPart) × SumFollowed p))
+        → SumFollowed (roll-SumPart (map-SumPart _ _ _ _ _ _ (λ e. e.0) (λ e. e.0) (λ e. e.0) y))
+    sum_followed y =
+        equal_parts _ _ _ _
+        (fold-roll-SumPart (Evaluation S V) (Part S V) (Part S V) (layer a c) (product_layer a) (sum_layer a) _)
+        (fold-roll-SumPart (Evaluation (Unit {0}) W) (Part (Unit {0}) W) (Part (Unit {0}) W) (layer (storeless b) d) (product_layer (storeless b)) (sum_layer (storeless b)) _)
+        (record { operator = refl; at = refl; of = y.of.1 })
+
+    pub evaluate_follows : (e : Expr) → IsFollowed e
+    evaluate_follows = ind-Expr IsFollowed ProductFollowed SumFollowed
+        (λ x y is. subst (λ z. IsFollowed (roll-Expr z)) is (rolled_follows y))
+        (λ x y is. subst (λ z. ProductFollowed (roll-ProdPart z)) is (product_followed y))
+        (λ x y is. subst (λ z. SumFollowed (roll-SumPart z)) is (sum_followed y))
+
+  -- a call of a definition follows
+  called_with_follows : (secret : Bool) (s : S) (v : Value V) (w : Value W) → Values s v w → Follows Grows Values s (called_with a secret v) (called_with (storeless b) secret w)
+  called_with_follows true s v w h = secretly s (as_secret a v) (as_secret (storeless b) w) (as_secret_follows s v w h)
+  called_with_follows false s v w h = give_follows Grows R same.growth Values values_last s v w h
+
+  definition_follows : (c : Calls S V) (d : Calls (Unit {0}) W) → CallsFollow c d → (f : Def) → Means (meaning a c f) (meaning (storeless b) d f)
+  unfolding meaning
+  definition_follows c d calls f s vs ws h =
+      rw (any_like (R s) vs ws h)
+      (then_follows Grows R same.growth Values Values s _ _ (called_with a (list_any is_secret ws)) (called_with (storeless b) (list_any is_secret ws))
+      (evaluate_follows c d calls f.value s _ _ (arguments_like (R s) f.params vs ws nothing nothing h (record { texts = refl; lists = tt })))
+      (λ t v w grown l. called_with_follows (list_any is_secret ws) t v w l))
+
+  with_follows : (c : Calls S V) (d : Calls (Unit {0}) W) → CallsFollow c d → (f : Def) → CallsFollow (with_definition a c f) (with_definition (storeless b) d f)
+  with_follows c d calls f text = by (bytes_eq f.name.text text)
+    where
+      by : (found : Bool) → Means (cond found (meaning a c f) (c text)) (cond found (meaning (storeless b) d f) (d text))
+      by true = definition_follows c d calls f
+      by false = calls text
+
+  definitions_follow : (fs : List Def) (c : Calls S V) (d : Calls (Unit {0}) W) → CallsFollow c d → CallsFollow (definitions_after a c fs) (definitions_after (storeless b) d fs)
+  definitions_follow [] c d calls = calls
+  definitions_follow (f ∷ fs) c d calls = definitions_follow fs _ _ (with_follows c d calls f)
+
+  -- what may be called behind the same definitions follows
+  pub calls_follow : (fs : List Def) → CallsFollow (calls_of a fs) (calls_of (storeless b) fs)
+  unfolding calls_of
+  calls_follow fs = definitions_follow fs no_calls no_calls (λ text s vs ws l. give_follows Grows R same.growth Values values_last s (Public (pos 0)) (Public (pos 0)) refl)

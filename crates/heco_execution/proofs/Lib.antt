@@ -1,3 +1,4 @@
+pub mod CallLemmas
 pub mod Evaluations
 pub mod ExpressionLemmas
 pub mod Following
@@ -8,3 +9,4 @@ pub mod Runs
 pub mod TermLaws
 pub mod TurnLemmas
 pub mod Wholes
+pub mod StatementLemmas

@@ -1,5 +1,5 @@
 -- Runs of statements follow one another where the secrets' operations do.
-use Rattle.std.proofs.Common.{◌≡◌, refl, ap, subst, ℕ, zero, suc, ◌+◌, ℤ, ◌+ℤ◌, ◌-ℤ◌, pos, List, [], ◌∷◌, ◌++◌, map, take, length, replicate, Some, None, slice_set, slice_index_or}
+use Rattle.std.proofs.Common.{◌≡◌, ◌∙◌, refl, Bool, true, false, ap, subst, ℕ, zero, suc, ◌+◌, ℤ, ◌+ℤ◌, ◌-ℤ◌, pos, List, [], ◌∷◌, ◌++◌, map, take, length, replicate, Some, None, slice_set, slice_index_or}
 use Rattle.std.specs.declared.option.Option.{Option}
 use Rattle.heco_lex.specs.declared.place.Place.{Place}
 use Rattle.heco_syntax.specs.declared.tree.Ident.{Ident}
@@ -16,51 +16,12 @@ use Rattle.heco_execution.specs.declared.value.Operator.TheVariants.{Plus, Minus
 use Rattle.heco_execution.specs.Secrets.{Secrets, Stored, storeless}
 use Rattle.heco_execution.specs.States.{State, place_of, element, with_list, declared, first_names, replaced}
 use Rattle.heco_execution.specs.Steps.{Step, give, then, make}
-use Rattle.heco_execution.specs.Evaluation.{as_secret}
-use Rattle.heco_execution.specs.Execution.{Run, at_least_zero, bound, in_order, turn, turns, zeros, kept, combined, values, target_index, initial, assigned, statement, run, run_all}
+use Rattle.heco_execution.specs.Evaluation.{Calls, as_secret, evaluate}
+use Rattle.heco_execution.specs.Execution.{Run, at_least_zero, bound, holds, within, chosen, in_order, turn, turns, zeros, kept, combined, target_index, initial, assigned, statement, run, run_all}
 use Rattle.heco_execution.proofs.Following.{AllLike, Follows, then_follows, give_follows, test_follows, counted_follows}
-use Rattle.heco_execution.proofs.Evaluations.{AreFollowed, ValueLike, StateLike, ElementLike, held_like, element_agrees, Values, Lists, States, Elements, values_last, lists_last, states_last, number_follows, as_secret_follows, secretly, operate_follows, evaluate_follows}
-
-module _ {A B : Type 0} (Q : A → B → Type 0) where
-  pub append_like : (xs zs : List A) (ys ws : List B) → AllLike Q xs ys → AllLike Q zs ws → AllLike Q (xs ++ zs) (ys ++ ws)
-  append_like [] zs [] ws h k = k
-  append_like (x ∷ xs) zs (y ∷ ys) ws h k = (h.0, append_like xs zs ys ws h.1 k)
-  append_like [] zs (y ∷ ys) ws h k = absurd h
-  append_like (x ∷ xs) zs [] ws h k = absurd h
-
-  take_like : (n : ℕ) (xs : List A) (ys : List B) → AllLike Q xs ys → AllLike Q (take n xs) (take n ys)
-  take_like zero xs ys h = tt
-  take_like (suc n) [] [] h = tt
-  take_like (suc n) (x ∷ xs) (y ∷ ys) h = (h.0, take_like n xs ys h.1)
-  take_like (suc n) [] (y ∷ ys) h = absurd h
-  take_like (suc n) (x ∷ xs) [] h = absurd h
-
-  set_like : (xs : List A) (ys : List B) (n : ℕ) (x : A) (y : B) → AllLike Q xs ys → Q x y → AllLike Q (slice_set xs n x) (slice_set ys n y)
-  set_like [] [] n x y h k = tt
-  set_like (v ∷ xs) (w ∷ ys) zero x y h k = (k, h.1)
-  set_like (v ∷ xs) (w ∷ ys) (suc n) x y h k = (h.0, set_like xs ys n x y h.1 k)
-  set_like [] (w ∷ ys) n x y h k = absurd h
-  set_like (v ∷ xs) [] n x y h k = absurd h
-
-  replicate_like : (n : ℕ) (x : A) (y : B) → Q x y → AllLike Q (replicate n x) (replicate n y)
-  replicate_like zero x y k = tt
-  replicate_like (suc n) x y k = (k, replicate_like n x y k)
+use Rattle.heco_execution.proofs.Evaluations.{AreFollowed, ValueLike, StateLike, ElementLike, held_like, element_agrees, Values, Lists, States, Elements, values_last, lists_last, states_last, number_follows, as_secret_follows, secretly, operate_follows, evaluate_follows, Evaluates, in_turn_follows, CallsFollow, take_like, set_like, replicate_like, declared_like}
 
 module _ {V W : Type 0} (R : V → W → Type 0) where
-  with_like : (x : State V) (y : State W) (text : List ℕ) (vs : List (Value V)) (ws : List (Value W)) (o : Option ℕ) → StateLike R x y → AllLike (ValueLike R) vs ws
-      → StateLike R (with_list x text vs o) (with_list y text ws o)
-  with_like x y text vs ws None h k = record {
-    texts = ap (λ t. t ++ text ∷ []) h.texts;
-    lists = append_like (AllLike (ValueLike R)) x.lists (vs ∷ []) y.lists (ws ∷ []) h.lists (k, tt);
-  }
-  with_like x y text vs ws (Some i) h k = record { texts = h.texts; lists = set_like (AllLike (ValueLike R)) x.lists y.lists i vs ws h.lists k }
-
-  pub declared_like : (x : State V) (y : State W) (text : List ℕ) (vs : List (Value V)) (ws : List (Value W)) → StateLike R x y → AllLike (ValueLike R) vs ws
-      → StateLike R (declared x text vs) (declared y text ws)
-  unfolding declared
-  declared_like x y text vs ws h k =
-      subst (λ t. StateLike R (with_list x text vs (place_of text x.texts)) (with_list y text ws (place_of text t))) h.texts (with_like x y text vs ws (place_of text x.texts) h k)
-
   first_like : (n : ℕ) (x : State V) (y : State W) → StateLike R x y → StateLike R (first_names n x) (first_names n y)
   first_like n x y h = record { texts = ap (λ t. take n t) h.texts; lists = take_like (AllLike (ValueLike R)) n x.lists y.lists h.lists }
 
@@ -73,13 +34,20 @@ module _ {V W : Type 0} (R : V → W → Type 0) where
         (set_like (ValueLike R) (slice_index_or x.lists f.list []) (slice_index_or y.lists f.list []) f.place v w (held_like R x.lists y.lists f.list h.lists) l));
   }
 
+  holds_like : (v : Value V) (w : Value W) → ValueLike R v w → holds v ≡ holds w
+  holds_like (Public m) (Public n) e = ap (λ z. holds {V = W} (Public z)) e ∙ refl
+  holds_like (Secret v) (Secret w) e = refl
+  holds_like (Public m) (Secret w) e = absurd e
+  holds_like (Secret v) (Public n) e = absurd e
+
   bound_like : (v : Value V) (w : Value W) → ValueLike R v w → bound v ≡ bound w
   bound_like (Public m) (Public n) e = e
   bound_like (Secret v) (Secret w) e = refl
   bound_like (Public m) (Secret w) e = absurd e
   bound_like (Secret v) (Public n) e = absurd e
 
-module _ {S V W : Type 0} (a : Stored S V) (b : Secrets W) (Grows : S → S → Type 0) (R : S → V → W → Type 0) (same : AreFollowed a b Grows R) where
+module _ {S V W : Type 0} (a : Stored S V) (b : Secrets W) (Grows : S → S → Type 0) (R : S → V → W → Type 0) (same : AreFollowed a b Grows R)
+    (c : Calls S V) (d : Calls (Unit {0}) W) (calls : CallsFollow a b Grows R same c d) where
   -- the one run follows the other over corresponding states
   abbrev pub Runs : Run S V → Run (Unit {0}) W → Type 0
   Runs f g = (s : S) (x : State V) (y : State W) → StateLike (R s) x y → Follows Grows (States a b Grows R same) s (f x) (g y)
@@ -129,28 +97,23 @@ module _ {S V W : Type 0} (a : Stored S V) (b : Secrets W) (Grows : S → S → 
   combined_follows s Sub at old v old' w e f = operate_follows a b Grows R same s Minus at old v old' w e f
   combined_follows s Mul at old v old' w e f = operate_follows a b Grows R same s Times at old v old' w e f
 
-  values_follows : (es : List Expr) (s : S) (x : State V) (y : State W) (done : List (Value V)) (done' : List (Value W)) → StateLike (R s) x y → AllLike (ValueLike (R s)) done done'
-      → Follows Grows (Lists a b Grows R same) s (values a es x done) (values (storeless b) es y done')
-  values_follows [] s x y done done' like h = give_follows Grows R same.growth (Lists a b Grows R same) (lists_last a b Grows R same) s done done' h
-  values_follows (e ∷ es) s x y done done' like h =
-      then_follows Grows R same.growth (Values a b Grows R same) (Lists a b Grows R same) s _ _ (λ v. values a es x (done ++ v ∷ [])) (λ w. values (storeless b) es y (done' ++ w ∷ []))
-      (evaluate_follows a b Grows R same e s x y like)
-      (λ t v w grown c. values_follows es t x y _ _ (states_last a b Grows R same s t x y grown like)
-      (append_like (ValueLike (R t)) done (v ∷ []) done' (w ∷ []) (lists_last a b Grows R same s t done done' grown h) (c, tt)))
+  values_follows : (es : List Expr) → AllLike (Evaluates a b Grows R same) (map (evaluate a c) es) (map (evaluate (storeless b) d) es)
+  values_follows [] = tt
+  values_follows (e ∷ es) = (evaluate_follows a b Grows R same c d calls e, values_follows es)
 
   target_follows : (i : Option Expr) (s : S) (x : State V) (y : State W) → StateLike (R s) x y
-      → Follows Grows (Values a b Grows R same) s (target_index a i x) (target_index (storeless b) i y)
+      → Follows Grows (Values a b Grows R same) s (target_index a c i x) (target_index (storeless b) d i y)
   target_follows None s x y like = give_follows Grows R same.growth (Values a b Grows R same) (values_last a b Grows R same) s (Public (pos 0)) (Public (pos 0)) refl
-  target_follows (Some e) s x y like = evaluate_follows a b Grows R same e s x y like
+  target_follows (Some e) s x y like = evaluate_follows a b Grows R same c d calls e s x y like
 
   initial_follows : (i : Option Expr) (s : S) (x : State V) (y : State W) → StateLike (R s) x y
-      → Follows Grows (Values a b Grows R same) s (initial a i x) (initial (storeless b) i y)
+      → Follows Grows (Values a b Grows R same) s (initial a c i x) (initial (storeless b) d i y)
   initial_follows None s x y like = secretly a b Grows R same s (make (a.of_number (pos 0))) (make ((storeless b).of_number (pos 0))) (number_follows a b Grows R same s (pos 0))
   initial_follows (Some e) s x y like =
-      then_follows Grows R same.growth (Values a b Grows R same) (Values a b Grows R same) s _ _ _ _ (evaluate_follows a b Grows R same e s x y like)
+      then_follows Grows R same.growth (Values a b Grows R same) (Values a b Grows R same) s _ _ _ _ (evaluate_follows a b Grows R same c d calls e s x y like)
       (λ t v w grown c. secretly a b Grows R same t (as_secret a v) (as_secret (storeless b) w) (as_secret_follows a b Grows R same t v w c))
 
-  assigned_follows : (name : Ident) (index : Option Expr) (op : SetOp) (at : Place) (value : Expr) → Runs (assigned a name index op at value) (assigned (storeless b) name index op at value)
+  assigned_follows : (name : Ident) (index : Option Expr) (op : SetOp) (at : Place) (value : Expr) → Runs (assigned a c name index op at value) (assigned (storeless b) d name index op at value)
   unfolding assigned
   assigned_follows name index op at value s x y like =
       counted_follows Grows R same.growth (States a b Grows R same) s 1 name.at _ _ (λ s1 g1.
@@ -163,7 +126,7 @@ module _ {S V W : Type 0} (a : Stored S V) (b : Secrets W) (Grows : S → S → 
       (λ t g. element_agrees (R t) name x y i j (states_last a b Grows R same s2 t x y g like2) (values_last a b Grows R same s2 t i j g ij)))
       (λ s3 e f g3 ef.
       let like3 = states_last a b Grows R same s2 s3 x y g3 like2 in
-      then_follows Grows R same.growth (Values a b Grows R same) (States a b Grows R same) s3 _ _ _ _ (evaluate_follows a b Grows R same value s3 x y like3)
+      then_follows Grows R same.growth (Values a b Grows R same) (States a b Grows R same) s3 _ _ _ _ (evaluate_follows a b Grows R same c d calls value s3 x y like3)
       (λ s4 v w g4 vw.
       let like4 = states_last a b Grows R same s3 s4 x y g4 like3 in
       then_follows Grows R same.growth (Values a b Grows R same) (States a b Grows R same) s4 _ _ _ _
@@ -187,24 +150,37 @@ module _ {S V W : Type 0} (a : Stored S V) (b : Secrets W) (Grows : S → S → 
       (λ t v w grown c. given t _ _ (declared_like (R t) x y name.text (v ∷ []) (w ∷ []) (states_last a b Grows R same s t x y grown like) (c, tt)))
 
   abbrev IsFollowed : Stmt → Type 0
-  IsFollowed s = Runs (run a s) (run (storeless b) s)
+  IsFollowed s = Runs (run a c s) (run (storeless b) d s)
 
-  runs_follow : (ys : List ((s : Stmt) × IsFollowed s)) → AllLike Runs (map (run a) (map (λ y. y.0) ys)) (map (run (storeless b)) (map (λ y. y.0) ys))
+  runs_follow : (ys : List ((s : Stmt) × IsFollowed s)) → AllLike Runs (map (run a c) (map (λ y. y.0) ys)) (map (run (storeless b) d) (map (λ y. y.0) ys))
   runs_follow [] = tt
   runs_follow (y ∷ ys) = (y.1, runs_follow ys)
 
   abbrev bare : Stmt-F ((s : Stmt) × IsFollowed s) → Stmt-F Stmt
   bare y = map-Stmt _ _ (λ e. e.0) y
 
-  statement_follows : (y : Stmt-F ((s : Stmt) × IsFollowed s)) → Runs (statement a (map-Stmt _ _ (run a) (bare y))) (statement (storeless b) (map-Stmt _ _ (run (storeless b)) (bare y)))
+  within_follows : (r : Run S V) (q : Run (Unit {0}) W) → Runs r q → Runs (within r) (within q)
+  within_follows r q m s x y like =
+      then_follows Grows R same.growth (States a b Grows R same) (States a b Grows R same) s (r x) (q y) (λ end. give (first_names (length x.texts) end)) (λ end. give (first_names (length y.texts) end)) (m s x y like)
+      (λ u x' y' more l. given u _ _ (rw (ap length like.texts) (first_like (R u) (length y.texts) x' y' l)))
+
+  chosen_follows : (first : Bool) (rs : List (Run S V)) (qs : List (Run (Unit {0}) W)) → AllLike Runs rs qs → Runs (chosen first rs None) (chosen first qs None)
+  chosen_follows true rs qs m s x y like = within_follows _ _ (in_order_follows rs qs m) s x y like
+  chosen_follows false rs qs m s x y like = given s x y like
+
+  either_follows : (first : Bool) (rs os : List (Run S V)) (qs us : List (Run (Unit {0}) W)) → AllLike Runs rs qs → AllLike Runs os us → Runs (chosen first rs (Some os)) (chosen first qs (Some us))
+  either_follows true rs os qs us m n s x y like = within_follows _ _ (in_order_follows rs qs m) s x y like
+  either_follows false rs os qs us m n s x y like = within_follows _ _ (in_order_follows os us n) s x y like
+
+  statement_follows : (y : Stmt-F ((s : Stmt) × IsFollowed s)) → Runs (statement a c (map-Stmt _ _ (run a c) (bare y))) (statement (storeless b) d (map-Stmt _ _ (run (storeless b) d) (bare y)))
   statement_follows (Stmt-F.IntOne at name value) s x y like =
       counted_follows Grows R same.growth (States a b Grows R same) s 1 at _ _ (λ t grown.
       let inside = states_last a b Grows R same s t x y grown like in
-      declaring_one t name x y inside _ _ (evaluate_follows a b Grows R same value t x y inside))
+      declaring_one t name x y inside _ _ (evaluate_follows a b Grows R same c d calls value t x y inside))
   statement_follows (Stmt-F.IntMany at name len list) s x y like =
       counted_follows Grows R same.growth (States a b Grows R same) s (1 + len.value) at _ _ (λ t grown.
       let inside = states_last a b Grows R same s t x y grown like in
-      declaring t name x y inside _ _ (values_follows list t x y [] [] inside tt))
+      declaring t name x y inside _ _ (in_turn_follows a b Grows R same _ _ (values_follows list) t x y [] [] inside tt))
   statement_follows (Stmt-F.SecretOne at name value) s x y like =
       counted_follows Grows R same.growth (States a b Grows R same) s 1 at _ _ (λ t grown.
       let inside = states_last a b Grows R same s t x y grown like in
@@ -216,29 +192,43 @@ module _ {S V W : Type 0} (a : Stored S V) (b : Secrets W) (Grows : S → S → 
   statement_follows (Stmt-F.Loop at name low high body) s x y like =
       counted_follows Grows R same.growth (States a b Grows R same) s 1 at _ _ (λ s1 g1.
       let like1 = states_last a b Grows R same s s1 x y g1 like in
-      then_follows Grows R same.growth (Values a b Grows R same) (States a b Grows R same) s1 _ _ _ _ (evaluate_follows a b Grows R same low s1 x y like1)
+      then_follows Grows R same.growth (Values a b Grows R same) (States a b Grows R same) s1 _ _ _ _ (evaluate_follows a b Grows R same c d calls low s1 x y like1)
       (λ s2 l l' g2 ll.
       let like2 = states_last a b Grows R same s1 s2 x y g2 like1 in
-      then_follows Grows R same.growth (Values a b Grows R same) (States a b Grows R same) s2 _ _ _ _ (evaluate_follows a b Grows R same high s2 x y like2)
+      then_follows Grows R same.growth (Values a b Grows R same) (States a b Grows R same) s2 _ _ _ _ (evaluate_follows a b Grows R same c d calls high s2 x y like2)
       (λ s3 h h' g3 hh.
       rw (bound_like (R s2) l l' ll, bound_like (R s3) h h' hh)
-      (turns_follows at name.text (in_order (map (run a) (map (λ z. z.0) body))) (in_order (map (run (storeless b)) (map (λ z. z.0) body)))
+      (turns_follows at name.text (in_order (map (run a c) (map (λ z. z.0) body))) (in_order (map (run (storeless b) d) (map (λ z. z.0) body)))
       (in_order_follows _ _ (runs_follow body)) (at_least_zero (bound h' -ℤ bound l')) (bound l') s3 x y (states_last a b Grows R same s2 s3 x y g3 like2)))))
+  statement_follows (Stmt-F.Choice at test body None) s x y like =
+      counted_follows Grows R same.growth (States a b Grows R same) s 1 at _ _ (λ s1 g1.
+      let like1 = states_last a b Grows R same s s1 x y g1 like in
+      then_follows Grows R same.growth (Values a b Grows R same) (States a b Grows R same) s1 _ _ _ _ (evaluate_follows a b Grows R same c d calls test s1 x y like1)
+      (λ s2 v w g2 vw.
+      rw (holds_like (R s2) v w vw)
+      (chosen_follows (holds w) _ _ (runs_follow body) s2 x y (states_last a b Grows R same s1 s2 x y g2 like1))))
+  statement_follows (Stmt-F.Choice at test body (Some other)) s x y like =
+      counted_follows Grows R same.growth (States a b Grows R same) s 1 at _ _ (λ s1 g1.
+      let like1 = states_last a b Grows R same s s1 x y g1 like in
+      then_follows Grows R same.growth (Values a b Grows R same) (States a b Grows R same) s1 _ _ _ _ (evaluate_follows a b Grows R same c d calls test s1 x y like1)
+      (λ s2 v w g2 vw.
+      rw (holds_like (R s2) v w vw)
+      (either_follows (holds w) _ _ _ _ (runs_follow body) (runs_follow other) s2 x y (states_last a b Grows R same s1 s2 x y g2 like1))))
 
   equal_follow : (f f' : Run S V) (g g' : Run (Unit {0}) W) → f ≡ f' → g ≡ g' → Runs f' g' → Runs f g
   equal_follow f f' g g' e k h = rw (e, k) h
 
   rolled_follows : (y : Stmt-F ((s : Stmt) × IsFollowed s)) → IsFollowed (roll-Stmt (bare y))
   rolled_follows y =
-      equal_follow _ _ _ _ (fold-roll-Stmt (Run S V) (statement a) (bare y)) (fold-roll-Stmt (Run (Unit {0}) W) (statement (storeless b)) (bare y)) (statement_follows y)
+      equal_follow _ _ _ _ (fold-roll-Stmt (Run S V) (statement a c) (bare y)) (fold-roll-Stmt (Run (Unit {0}) W) (statement (storeless b) d) (bare y)) (statement_follows y)
 
   pub run_follows : (s : Stmt) → IsFollowed s
   run_follows = ind-Stmt IsFollowed (λ x y is. subst (λ z. IsFollowed (roll-Stmt z)) is (rolled_follows y))
 
-  all_follow : (body : List Stmt) → AllLike Runs (map (run a) body) (map (run (storeless b)) body)
+  all_follow : (body : List Stmt) → AllLike Runs (map (run a c) body) (map (run (storeless b) d) body)
   all_follow [] = tt
   all_follow (s ∷ body) = (run_follows s, all_follow body)
 
   -- the runs of statements follow one another
-  pub run_all_follows : (body : List Stmt) → Runs (run_all a body) (run_all (storeless b) body)
+  pub run_all_follows : (body : List Stmt) → Runs (run_all a c body) (run_all (storeless b) d body)
   run_all_follows body = in_order_follows _ _ (all_follow body)

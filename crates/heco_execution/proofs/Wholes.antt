@@ -1,5 +1,5 @@
 -- Executions of whole sources follow one another where the secrets' operations do.
-use Rattle.std.proofs.Common.{◌≡◌, ◌∙◌, refl, sym, ap, ℕ, zero, suc, ◌+◌, ◌%◌, true, false, cond, List, [], ◌∷◌, ◌++◌, map, Some, None, Ok, Err, slice_index, slice_index_or, arith, add-zero}
+use Rattle.std.proofs.Common.{◌≡◌, ◌∙◌, refl, pos, sym, ap, ℕ, zero, suc, ◌+◌, ◌%◌, true, false, cond, List, [], ◌∷◌, ◌++◌, map, Some, None, Ok, Err, slice_index, slice_index_or, arith, add-zero}
 use Rattle.std.proofs.Math.Nat.{mod-eq_of_lt}
 use Rattle.std.specs.declared.option.Option.{Option}
 use Rattle.heco_syntax.specs.declared.tree.Param.{Param}
@@ -8,18 +8,19 @@ use Rattle.heco_written.specs.World.{World}
 use Rattle.heco_written.specs.ScalarTerm.{ScalarTerm, scalar_value}
 use Rattle.heco_execution.specs.declared.progress.Progress.{Progress}
 use Rattle.heco_execution.specs.declared.value.Value.{Value}
-use Rattle.heco_execution.specs.declared.value.Value.TheVariants.{Secret}
+use Rattle.heco_execution.specs.declared.value.Value.TheVariants.{Public, Secret}
 use Rattle.heco_execution.specs.Outcomes.{Outcome, after}
 use Rattle.heco_execution.specs.Secrets.{Secrets, Stored, storeless, numbers, terms}
 use Rattle.heco_execution.specs.States.{State, nothing, place_of, list_at, list_of, declared}
 use Rattle.heco_execution.specs.Steps.{give, then}
+use Rattle.heco_execution.specs.Evaluation.{no_calls}
 use Rattle.heco_execution.specs.Execution.{zeros}
 use Rattle.heco_syntax.specs.Ports.{length_of}
 use Rattle.heco_execution.specs.Whole.{first_row, other_rows, opened, as_secrets, with_output, outputs, execute}
 use Rattle.heco_execution.specs.Laws.{input_lengths, elements_from, elements, IsRow, AreRows, mapped, values_of, NumbersAreTheTermsValues}
 use Rattle.heco_execution.proofs.Following.{AllLike, Comes, Follows, then_follows, give_follows}
-use Rattle.heco_execution.proofs.Evaluations.{AreFollowed, ValueLike, StateLike, held_like, Lists, States, lists_last, states_last, as_secret_follows}
-use Rattle.heco_execution.proofs.Runs.{append_like, declared_like, zeros_follows, run_all_follows}
+use Rattle.heco_execution.proofs.Evaluations.{AreFollowed, ValueLike, StateLike, held_like, Values, Lists, States, values_last, lists_last, states_last, as_secret_follows, calls_follow, append_like, declared_like}
+use Rattle.heco_execution.proofs.Runs.{zeros_follows, run_all_follows}
 use Rattle.heco_execution.proofs.TermLaws.{HasValue, Stays, terms_followed}
 
 module _ {V W : Type 0} (R : V → W → Type 0) where
@@ -75,7 +76,7 @@ module _ {S V W : Type 0} (a : Stored S V) (b : Secrets W) (Grows : S → S → 
       (cond o (then (zeros a (length_of p.len)) (λ list. opened a ports rows (declared x p.name.text list))) (opened a ports (other_rows rows) (declared x p.name.text (map (λ v. Secret v) (first_row rows)))))
       (cond o (then (zeros (storeless b) (length_of p.len)) (λ list. opened (storeless b) ports others (declared y p.name.text list)))
       (opened (storeless b) ports (other_rows others) (declared y p.name.text (map (λ v. Secret v) (first_row others)))))) [
-        | true ↦ then_follows Grows R same.growth (Lists a b Grows R same) (States a b Grows R same) s (zeros a (length_of p.len)) (zeros (storeless b) (length_of p.len)) _ _ (zeros_follows a b Grows R same (length_of p.len) s)
+        | true ↦ then_follows Grows R same.growth (Lists a b Grows R same) (States a b Grows R same) s (zeros a (length_of p.len)) (zeros (storeless b) (length_of p.len)) _ _ (zeros_follows a b Grows R same no_calls no_calls (λ text s vs ws l. give_follows Grows R same.growth (Values a b Grows R same) (values_last a b Grows R same) s (Public (pos 0)) (Public (pos 0)) refl) (length_of p.len) s)
             (λ t l m grown c. opened_follows ports t rows others _ _ (rows_last s t rows others grown h)
             (declared_like (R t) x y p.name.text l m (states_last a b Grows R same s t x y grown like) c))
         | false ↦ opened_follows ports s (other_rows rows) (other_rows others) _ _ (other_like (R s) rows others h)
@@ -117,7 +118,7 @@ module _ {S V W : Type 0} (a : Stored S V) (b : Secrets W) (Grows : S → S → 
   execute_follows source s rows others h =
       then_follows Grows R same.growth (States a b Grows R same) Rows s _ _ _ _ (opened_follows source.ports s rows others nothing nothing h (record { texts = refl; lists = tt }))
       (λ t x y grown like.
-      then_follows Grows R same.growth (States a b Grows R same) Rows t _ _ _ _ (run_all_follows a b Grows R same source.body t x y like)
+      then_follows Grows R same.growth (States a b Grows R same) Rows t _ _ _ _ (run_all_follows a b Grows R same _ _ (calls_follow a b Grows R same source.defs) source.body t x y like)
       (λ u x' y' more end. outputs_follows source.ports u x' y' [] [] end tt))
 
 module _ (w : World) where

@@ -1,5 +1,5 @@
 -- What statements do, whatever the secrets are.
-use Rattle.std.specs.Prelude.{ℕ, zero, suc, ◌+◌, ℤ, pos, negsuc, ◌+ℤ◌, ◌-ℤ◌, List, [], ◌∷◌, ◌++◌, map, length, replicate, Some, None}
+use Rattle.std.specs.Prelude.{Bool, true, false, ℕ, zero, suc, ◌+◌, ℤ, pos, negsuc, ◌+ℤ◌, ◌-ℤ◌, List, [], ◌∷◌, ◌++◌, map, length, replicate, Some, None}
 use Rattle.std.specs.declared.option.Option.{Option}
 use Rattle.heco_lex.specs.declared.place.Place.{Place}
 use Rattle.heco_syntax.specs.declared.tree.Ident.{Ident}
@@ -14,7 +14,7 @@ use Rattle.heco_execution.specs.declared.value.Operator.TheVariants.{Plus, Minus
 use Rattle.heco_execution.specs.Secrets.{Stored}
 use Rattle.heco_execution.specs.States.{State, element, declared, first_names, replaced}
 use Rattle.heco_execution.specs.Steps.{Step, give, then, test, count, make}
-use Rattle.heco_execution.specs.Evaluation.{as_secret, evaluate, operate}
+use Rattle.heco_execution.specs.Evaluation.{Calls, as_secret, evaluate, in_turn, operate}
 
 -- from a state to the state then
 abbrev pub Run : Type 0 → Type 0 → Type 0
@@ -44,6 +44,23 @@ abbrev pub turns : {S V : Type 0} → Place → List ℕ → Run S V → ℕ →
 turns at text body zero i state = give state
 turns at text body (suc n) i state = then (turn at text body i state) (turns at text body n (i +ℤ pos 1))
 
+-- a condition; none is secret
+abbrev pub holds : {V : Type 0} → Value V → Bool
+holds (Public (pos zero)) = false
+holds (Public (pos (suc n))) = true
+holds (Public (negsuc n)) = true
+holds (Secret v) = false
+
+-- a block, whose names go out with it
+abbrev pub within : {S V : Type 0} → Run S V → Run S V
+within body state = then (body state) (λ end. give (first_names (length state.texts) end))
+
+-- the first block, or else the second, where there is one
+abbrev pub chosen : {S V : Type 0} → Bool → List (Run S V) → Option (List (Run S V)) → Run S V
+chosen true body other state = within (in_order body) state
+chosen false body None state = give state
+chosen false body (Some other) state = within (in_order other) state
+
 module _ {S V : Type 0} (ops : Stored S V) where
   abbrev pub zeros : ℕ → Step S (List (Value V))
   zeros n = then (make (ops.of_number (pos 0))) (λ z. give (replicate n (Secret z)))
@@ -59,53 +76,60 @@ module _ {S V : Type 0} (ops : Stored S V) where
   combined Sub at old v = operate ops Minus at old v
   combined Mul at old v = operate ops Times at old v
 
-  -- the values of a list, behind those that there are
-  abbrev pub values : List Expr → State V → List (Value V) → Step S (List (Value V))
-  values [] state done = give done
-  values (e ∷ es) state done = then (evaluate ops e state) (λ v. values es state (done ++ v ∷ []))
+  module _ (calls : Calls S V) where
+    -- the index of an assignment's target; a scalar's is 0
+    abbrev pub target_index : Option Expr → State V → Step S (Value V)
+    target_index None state = give (Public (pos 0))
+    target_index (Some e) state = evaluate ops calls e state
 
-  -- the index of an assignment's target; a scalar's is 0
-  abbrev pub target_index : Option Expr → State V → Step S (Value V)
-  target_index None state = give (Public (pos 0))
-  target_index (Some e) state = evaluate ops e state
+    -- what a secret scalar starts at
+    abbrev pub initial : Option Expr → State V → Step S (Value V)
+    initial None state = then (make (ops.of_number (pos 0))) (λ z. give (Secret z))
+    initial (Some e) state = then (evaluate ops calls e state) (λ v. then (as_secret ops v) (λ u. give (Secret u)))
 
-  -- what a secret scalar starts at
-  abbrev pub initial : Option Expr → State V → Step S (Value V)
-  initial None state = then (make (ops.of_number (pos 0))) (λ z. give (Secret z))
-  initial (Some e) state = then (evaluate ops e state) (λ v. then (as_secret ops v) (λ u. give (Secret u)))
+    -- the target's index, its element, the value, and both combined
+    unfoldable pub assigned : Ident → Option Expr → SetOp → Place → Expr → Run S V
+    assigned name index op op_at value state =
+        then (count 1 name.at) (λ _.
+        then (target_index index state) (λ i.
+        then (test (element name state i)) (λ target.
+        then (evaluate ops calls value state) (λ v.
+        then (combined op op_at target.value v) (λ u. give (replaced state target u))))))
 
-  -- the target's index, its element, the value, and both combined
-  unfoldable pub assigned : Ident → Option Expr → SetOp → Place → Expr → Run S V
-  assigned name index op op_at value state =
-      then (count 1 name.at) (λ _.
-      then (target_index index state) (λ i.
-      then (test (element name state i)) (λ target.
-      then (evaluate ops value state) (λ v.
-      then (combined op op_at target.value v) (λ u. give (replaced state target u))))))
+    -- both bounds once, and then the turns
+    abbrev pub looped : Place → List ℕ → Expr → Expr → Run S V → Run S V
+    looped at text low high body state =
+        then (count 1 at) (λ _.
+        then (evaluate ops calls low state) (λ l.
+        then (evaluate ops calls high state) (λ h.
+        turns at text body (at_least_zero (bound h -ℤ bound l)) (bound l) state)))
 
-  -- one layer of a statement, whose blocks are runs
-  abbrev pub statement : Stmt-F (Run S V) → Run S V
-  statement (Stmt-F.IntOne at name value) state =
-      then (count 1 at) (λ _.
-      then (evaluate ops value state) (λ v. give (declared state name.text (v ∷ []))))
-  statement (Stmt-F.IntMany at name len list) state =
-      then (count (1 + len.value) at) (λ _.
-      then (values list state []) (λ vs. give (declared state name.text vs)))
-  statement (Stmt-F.SecretOne at name value) state =
-      then (count 1 at) (λ _.
-      then (initial value state) (λ v. give (declared state name.text (v ∷ []))))
-  statement (Stmt-F.SecretMany at name len) state =
-      then (count (1 + len.value) at) (λ _.
-      then (zeros len.value) (λ vs. give (declared state name.text vs)))
-  statement (Stmt-F.Set name index op op_at value) state = assigned name index op op_at value state
-  statement (Stmt-F.Loop at name low high body) state =
-      then (count 1 at) (λ _.
-      then (evaluate ops low state) (λ l.
-      then (evaluate ops high state) (λ h.
-      turns at name.text (in_order body) (at_least_zero (bound h -ℤ bound l)) (bound l) state)))
+    -- the condition once, and then one block
+    abbrev pub decided : Place → Expr → List (Run S V) → Option (List (Run S V)) → Run S V
+    decided at test body other state =
+        then (count 1 at) (λ _.
+        then (evaluate ops calls test state) (λ c. chosen (holds c) body other state))
 
-  abbrev pub run : Stmt → Run S V
-  run s = fold-Stmt (Run S V) statement s
+    -- one layer of a statement, whose blocks are runs
+    abbrev pub statement : Stmt-F (Run S V) → Run S V
+    statement (Stmt-F.IntOne at name value) state =
+        then (count 1 at) (λ _.
+        then (evaluate ops calls value state) (λ v. give (declared state name.text (v ∷ []))))
+    statement (Stmt-F.IntMany at name len list) state =
+        then (count (1 + len.value) at) (λ _.
+        then (in_turn (map (evaluate ops calls) list) state []) (λ vs. give (declared state name.text vs)))
+    statement (Stmt-F.SecretOne at name value) state =
+        then (count 1 at) (λ _.
+        then (initial value state) (λ v. give (declared state name.text (v ∷ []))))
+    statement (Stmt-F.SecretMany at name len) state =
+        then (count (1 + len.value) at) (λ _.
+        then (zeros len.value) (λ vs. give (declared state name.text vs)))
+    statement (Stmt-F.Set name index op op_at value) state = assigned name index op op_at value state
+    statement (Stmt-F.Loop at name low high body) state = looped at name.text low high (in_order body) state
+    statement (Stmt-F.Choice at test body other) state = decided at test body other state
 
-  abbrev pub run_all : List Stmt → Run S V
-  run_all body = in_order (map run body)
+    abbrev pub run : Stmt → Run S V
+    run s = fold-Stmt (Run S V) statement s
+
+    abbrev pub run_all : List Stmt → Run S V
+    run_all body = in_order (map run body)

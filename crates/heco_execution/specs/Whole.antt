@@ -8,7 +8,7 @@ use Rattle.heco_execution.specs.declared.value.Value.TheVariants.{Secret}
 use Rattle.heco_execution.specs.Secrets.{Stored}
 use Rattle.heco_execution.specs.States.{State, nothing, list_of, declared}
 use Rattle.heco_execution.specs.Steps.{Step, give, then}
-use Rattle.heco_execution.specs.Evaluation.{as_secret}
+use Rattle.heco_execution.specs.Evaluation.{as_secret, calls_of}
 use Rattle.heco_execution.specs.Execution.{zeros, run_all}
 
 abbrev pub first_row : {V : Type 0} → List (List V) → List V
@@ -47,5 +47,5 @@ module _ {S V : Type 0} (ops : Stored S V) where
   unfoldable pub execute : Source → List (List V) → Step S (List (List V))
   execute source rows =
       then (opened source.ports rows nothing) (λ start.
-      then (run_all ops source.body start) (λ end.
+      then (run_all ops (calls_of ops source.defs) source.body start) (λ end.
       outputs source.ports end []))

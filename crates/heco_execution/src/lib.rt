@@ -1,6 +1,7 @@
 //! The execution of a source, whatever its secrets are: the definition, and one interpreter over a trait.
 #![tactic(auto)]
 
+mod calls;
 mod error;
 mod expression;
 mod law;

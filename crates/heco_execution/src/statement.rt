@@ -1,24 +1,18 @@
-ghost use Rattle.std.specs.Prelude.{◌≡◌, [], ◌∷◌, ◌-ℤ◌, IfOk, IfErr, Ok, replicate};
+ghost use Rattle.std.specs.Prelude.{◌≡◌, ◌-ℤ◌, map, Some, None, IfOk, IfErr, Ok, replicate};
 ghost use Rattle.heco_execution.specs.Outcomes.{Refuses};
-ghost use Rattle.heco_execution.specs.Execution.{at_least_zero, bound, turn, turns, zeros, kept, combined, values, target_index, initial, assigned, run, run_all};
+ghost use Rattle.heco_execution.specs.Evaluation.{calls_of};
+ghost use Rattle.heco_execution.specs.Execution.{holds, within, looped, decided, at_least_zero, bound, turn, turns, zeros, kept, combined, target_index, initial, assigned, run, run_all};
 
-use crate::expression::evaluate;
+use crate::calls::only;
+use crate::expression::{evaluate, in_turn};
 use crate::names::{Names, element};
 use crate::operators::{as_secret, operate};
 use crate::progress::{count, count_list};
 use crate::{EvalErr, Operator, Progress, Secrets, Value};
 use heco_lex::Place;
 use heco_nums::{List, Memory};
-use heco_syntax::{Expr, Ident, Num, SetOp, Stmt};
+use heco_syntax::{Def, Expr, Ident, Num, SetOp, Stmt};
 use std::alloc::Global;
-
-fn only<V: Copy>(alloc: Global, v: Value<V>) -> Result<List<Value<V>>, Memory>
-    ensures { IfOk result (λ list. list ≡ v ∷ []) }
-{
-    let mut list = List::new(alloc);
-    list.push(v)?;
-    Ok(list)
-}
 
 fn copies<V: Copy>(alloc: Global, n: u64, v: Value<V>) -> Result<List<Value<V>>, Memory>
     ensures { IfOk result (λ list. list ≡ replicate n v) }
@@ -76,52 +70,38 @@ fn combined<S: Secrets>(
     }
 }
 
-fn values<S: Secrets>(
+fn target_index<S: Secrets>(
     alloc: Global,
     m: &S,
-    names: &Names<S::Value>,
-    p: &mut Progress<S::Store>,
-    list: &[Expr],
-) -> Result<List<Value<S::Value>>, EvalErr>
-    ensures ok { IfOk result (λ vs. values (S.ops m.now) list.now names.now [] p.old ≡ Ok (vs, p.new)) }
-    ensures err { IfErr result (λ e. Refuses e (values (S.ops m.now) list.now names.now [] p.old)) }
-{
-    let mut done = List::new(alloc);
-    for e in list {
-        let v = evaluate(m, names, p, e)?;
-        done.push(v)?;
-    }
-    Ok(done)
-}
-
-fn target_index<S: Secrets>(
-    m: &S,
+    defs: &[Def],
     names: &Names<S::Value>,
     p: &mut Progress<S::Store>,
     index: &Option<Expr>,
 ) -> Result<Value<S::Value>, EvalErr>
-    ensures ok { IfOk result (λ v. target_index (S.ops m.now) index.now names.now p.old ≡ Ok (v, p.new)) }
-    ensures err { IfErr result (λ e. Refuses e (target_index (S.ops m.now) index.now names.now p.old)) }
+    ensures ok { IfOk result (λ v. target_index (S.ops m.now) (calls_of (S.ops m.now) defs.now) index.now names.now p.old ≡ Ok (v, p.new)) }
+    ensures err { IfErr result (λ e. Refuses e (target_index (S.ops m.now) (calls_of (S.ops m.now) defs.now) index.now names.now p.old)) }
 {
     match index {
         None => Ok(Value::Public(0)),
-        Some(e) => evaluate(m, names, p, e),
+        Some(e) => evaluate(alloc, m, defs, names, p, e),
     }
 }
 
 fn initial<S: Secrets>(
+    alloc: Global,
     m: &S,
+    defs: &[Def],
     names: &Names<S::Value>,
     p: &mut Progress<S::Store>,
     value: &Option<Expr>,
 ) -> Result<Value<S::Value>, EvalErr>
-    ensures ok { IfOk result (λ v. initial (S.ops m.now) value.now names.now p.old ≡ Ok (v, p.new)) }
-    ensures err { IfErr result (λ e. Refuses e (initial (S.ops m.now) value.now names.now p.old)) }
+    ensures ok { IfOk result (λ v. initial (S.ops m.now) (calls_of (S.ops m.now) defs.now) value.now names.now p.old ≡ Ok (v, p.new)) }
+    ensures err { IfErr result (λ e. Refuses e (initial (S.ops m.now) (calls_of (S.ops m.now) defs.now) value.now names.now p.old)) }
 {
     match value {
         None => Ok(Value::Secret(m.of_number(0, &mut p.store)?)),
         Some(e) => {
-            let v = evaluate(m, names, p, e)?;
+            let v = evaluate(alloc, m, defs, names, p, e)?;
             Ok(Value::Secret(as_secret(m, v, p)?))
         }
     }
@@ -136,10 +116,20 @@ fn bound<V: Copy>(v: Value<V>) -> i64
     }
 }
 
+fn holds<V: Copy>(v: Value<V>) -> bool
+    ensures { result ≡ holds v }
+{
+    match v {
+        Value::Public(n) => n != 0,
+        Value::Secret(_) => false,
+    }
+}
+
 #[tactic(auto, unfolding(crate::specs::Execution::assigned))]
 fn assign<S: Secrets>(
     alloc: Global,
     m: &S,
+    defs: &[Def],
     names: &mut Names<S::Value>,
     p: &mut Progress<S::Store>,
     name: &Ident,
@@ -148,13 +138,13 @@ fn assign<S: Secrets>(
     op_at: Place,
     value: &Expr,
 ) -> Result<(), EvalErr>
-    ensures ok { IfOk result (λ _. assigned (S.ops m.now) name.now index.now op op_at value.now names.old p.old ≡ Ok (names.new, p.new)) }
-    ensures err { IfErr result (λ e. Refuses e (assigned (S.ops m.now) name.now index.now op op_at value.now names.old p.old)) }
+    ensures ok { IfOk result (λ _. assigned (S.ops m.now) (calls_of (S.ops m.now) defs.now) name.now index.now op op_at value.now names.old p.old ≡ Ok (names.new, p.new)) }
+    ensures err { IfErr result (λ e. Refuses e (assigned (S.ops m.now) (calls_of (S.ops m.now) defs.now) name.now index.now op op_at value.now names.old p.old)) }
 {
     count(p, 1, name.at)?;
-    let i = target_index(m, names, p, index)?;
+    let i = target_index(alloc, m, defs, names, p, index)?;
     let target = element(names, name, i)?;
-    let new_value = evaluate(m, names, p, value)?;
+    let new_value = evaluate(alloc, m, defs, names, p, value)?;
     let u = combined(m, op, op_at, target.value, new_value, p)?;
     names.replace(alloc, target, u);
     Ok(())
@@ -165,17 +155,18 @@ fn assign<S: Secrets>(
 pub fn run<S: Secrets>(
     alloc: Global,
     m: &S,
+    defs: &[Def],
     names: &mut Names<S::Value>,
     p: &mut Progress<S::Store>,
     s: &Stmt,
 ) -> Result<(), EvalErr>
-    ensures ok { IfOk result (λ _. run (S.ops m.now) s.now names.old p.old ≡ Ok (names.new, p.new)) }
-    ensures err { IfErr result (λ e. Refuses e (run (S.ops m.now) s.now names.old p.old)) }
+    ensures ok { IfOk result (λ _. run (S.ops m.now) (calls_of (S.ops m.now) defs.now) s.now names.old p.old ≡ Ok (names.new, p.new)) }
+    ensures err { IfErr result (λ e. Refuses e (run (S.ops m.now) (calls_of (S.ops m.now) defs.now) s.now names.old p.old)) }
 {
     match s {
         Stmt::IntOne { at, name, value } => {
             count(p, 1, *at)?;
-            let v = evaluate(m, names, p, value)?;
+            let v = evaluate(alloc, m, defs, names, p, value)?;
             names.declare(alloc, name.text.as_slice(), only(alloc, v)?)?;
             Ok(())
         }
@@ -186,13 +177,13 @@ pub fn run<S: Secrets>(
             values: list,
         } => {
             count_list(p, len.value, *at)?;
-            let list = values(alloc, m, names, p, list.as_slice())?;
+            let list = in_turn(alloc, m, defs, names, p, list.as_slice())?;
             names.declare(alloc, name.text.as_slice(), list)?;
             Ok(())
         }
         Stmt::SecretOne { at, name, value } => {
             count(p, 1, *at)?;
-            let v = initial(m, names, p, value)?;
+            let v = initial(alloc, m, defs, names, p, value)?;
             names.declare(alloc, name.text.as_slice(), only(alloc, v)?)?;
             Ok(())
         }
@@ -209,7 +200,7 @@ pub fn run<S: Secrets>(
             op_at,
             value,
         } => {
-            assign(alloc, m, names, p, name, index, *op, *op_at, value)?;
+            assign(alloc, m, defs, names, p, name, index, *op, *op_at, value)?;
             Ok(())
         }
         Stmt::Loop {
@@ -219,21 +210,102 @@ pub fn run<S: Secrets>(
             high,
             body,
         } => {
-            count(p, 1, *at)?;
-            let low = evaluate(m, names, p, low)?;
-            let high = evaluate(m, names, p, high)?;
-            run_turns(
+            run_loop(
                 alloc,
                 m,
+                defs,
                 names,
                 p,
                 *at,
                 name.text.as_slice(),
-                bound(low),
-                bound(high),
+                low,
+                high,
                 body.as_slice(),
             )
         }
+        Stmt::Choice { at, cond, yes, no } => match no {
+            None => run_if(alloc, m, defs, names, p, *at, cond, yes.as_slice()),
+            Some(no) => run_either(
+                alloc,
+                m,
+                defs,
+                names,
+                p,
+                *at,
+                cond,
+                yes.as_slice(),
+                no.as_slice(),
+            ),
+        },
+    }
+}
+
+#[cycle(run)]
+fn run_loop<S: Secrets>(
+    alloc: Global,
+    m: &S,
+    defs: &[Def],
+    names: &mut Names<S::Value>,
+    p: &mut Progress<S::Store>,
+    at: Place,
+    text: &[u8],
+    low: &Expr,
+    high: &Expr,
+    body: &[Stmt],
+) -> Result<(), EvalErr>
+    ensures ok { IfOk result (λ _. looped (S.ops m.now) (calls_of (S.ops m.now) defs.now) at text.now low.now high.now (run_all (S.ops m.now) (calls_of (S.ops m.now) defs.now) body.now) names.old p.old ≡ Ok (names.new, p.new)) }
+    ensures err { IfErr result (λ e. Refuses e (looped (S.ops m.now) (calls_of (S.ops m.now) defs.now) at text.now low.now high.now (run_all (S.ops m.now) (calls_of (S.ops m.now) defs.now) body.now) names.old p.old)) }
+{
+    count(p, 1, at)?;
+    let l = evaluate(alloc, m, defs, names, p, low)?;
+    let h = evaluate(alloc, m, defs, names, p, high)?;
+    run_turns(alloc, m, defs, names, p, at, text, bound(l), bound(h), body)
+}
+
+#[cycle(run)]
+fn run_if<S: Secrets>(
+    alloc: Global,
+    m: &S,
+    defs: &[Def],
+    names: &mut Names<S::Value>,
+    p: &mut Progress<S::Store>,
+    at: Place,
+    test: &Expr,
+    body: &[Stmt],
+) -> Result<(), EvalErr>
+    ensures ok { IfOk result (λ _. decided (S.ops m.now) (calls_of (S.ops m.now) defs.now) at test.now (map (run (S.ops m.now) (calls_of (S.ops m.now) defs.now)) body.now) None names.old p.old ≡ Ok (names.new, p.new)) }
+    ensures err { IfErr result (λ e. Refuses e (decided (S.ops m.now) (calls_of (S.ops m.now) defs.now) at test.now (map (run (S.ops m.now) (calls_of (S.ops m.now) defs.now)) body.now) None names.old p.old)) }
+{
+    count(p, 1, at)?;
+    let v = evaluate(alloc, m, defs, names, p, test)?;
+    if holds(v) {
+        run_within(alloc, m, defs, names, p, body)
+    } else {
+        Ok(())
+    }
+}
+
+#[cycle(run)]
+fn run_either<S: Secrets>(
+    alloc: Global,
+    m: &S,
+    defs: &[Def],
+    names: &mut Names<S::Value>,
+    p: &mut Progress<S::Store>,
+    at: Place,
+    test: &Expr,
+    body: &[Stmt],
+    other: &[Stmt],
+) -> Result<(), EvalErr>
+    ensures ok { IfOk result (λ _. decided (S.ops m.now) (calls_of (S.ops m.now) defs.now) at test.now (map (run (S.ops m.now) (calls_of (S.ops m.now) defs.now)) body.now) (Some (map (run (S.ops m.now) (calls_of (S.ops m.now) defs.now)) other.now)) names.old p.old ≡ Ok (names.new, p.new)) }
+    ensures err { IfErr result (λ e. Refuses e (decided (S.ops m.now) (calls_of (S.ops m.now) defs.now) at test.now (map (run (S.ops m.now) (calls_of (S.ops m.now) defs.now)) body.now) (Some (map (run (S.ops m.now) (calls_of (S.ops m.now) defs.now)) other.now)) names.old p.old)) }
+{
+    count(p, 1, at)?;
+    let v = evaluate(alloc, m, defs, names, p, test)?;
+    if holds(v) {
+        run_within(alloc, m, defs, names, p, body)
+    } else {
+        run_within(alloc, m, defs, names, p, other)
     }
 }
 
@@ -242,6 +314,7 @@ pub fn run<S: Secrets>(
 fn run_turns<S: Secrets>(
     alloc: Global,
     m: &S,
+    defs: &[Def],
     names: &mut Names<S::Value>,
     p: &mut Progress<S::Store>,
     at: Place,
@@ -250,12 +323,12 @@ fn run_turns<S: Secrets>(
     high: i64,
     body: &[Stmt],
 ) -> Result<(), EvalErr>
-    ensures ok { IfOk result (λ _. turns at text.now (run_all (S.ops m.now) body.now) (at_least_zero (high -ℤ low)) low names.old p.old ≡ Ok (names.new, p.new)) }
-    ensures err { IfErr result (λ e. Refuses e (turns at text.now (run_all (S.ops m.now) body.now) (at_least_zero (high -ℤ low)) low names.old p.old)) }
+    ensures ok { IfOk result (λ _. turns at text.now (run_all (S.ops m.now) (calls_of (S.ops m.now) defs.now) body.now) (at_least_zero (high -ℤ low)) low names.old p.old ≡ Ok (names.new, p.new)) }
+    ensures err { IfErr result (λ e. Refuses e (turns at text.now (run_all (S.ops m.now) (calls_of (S.ops m.now) defs.now) body.now) (at_least_zero (high -ℤ low)) low names.old p.old)) }
 {
     let mut i = low;
     while i < high {
-        run_turn(alloc, m, names, p, at, text, i, body)?;
+        run_turn(alloc, m, defs, names, p, at, text, i, body)?;
         i += 1;
     }
     Ok(())
@@ -265,6 +338,7 @@ fn run_turns<S: Secrets>(
 fn run_turn<S: Secrets>(
     alloc: Global,
     m: &S,
+    defs: &[Def],
     names: &mut Names<S::Value>,
     p: &mut Progress<S::Store>,
     at: Place,
@@ -272,13 +346,32 @@ fn run_turn<S: Secrets>(
     i: i64,
     body: &[Stmt],
 ) -> Result<(), EvalErr>
-    ensures ok { IfOk result (λ _. turn at text.now (run_all (S.ops m.now) body.now) i names.old p.old ≡ Ok (names.new, p.new)) }
-    ensures err { IfErr result (λ e. Refuses e (turn at text.now (run_all (S.ops m.now) body.now) i names.old p.old)) }
+    ensures ok { IfOk result (λ _. turn at text.now (run_all (S.ops m.now) (calls_of (S.ops m.now) defs.now) body.now) i names.old p.old ≡ Ok (names.new, p.new)) }
+    ensures err { IfErr result (λ e. Refuses e (turn at text.now (run_all (S.ops m.now) (calls_of (S.ops m.now) defs.now) body.now) i names.old p.old)) }
 {
     count(p, 1, at)?;
     let visible = names.len();
     names.declare(alloc, text, only(alloc, Value::Public(i))?)?;
-    run_all(alloc, m, names, p, body)?;
+    run_all(alloc, m, defs, names, p, body)?;
+    names.keep_first(visible);
+    Ok(())
+}
+
+// Runs a block, whose names go out with it.
+#[cycle(run)]
+fn run_within<S: Secrets>(
+    alloc: Global,
+    m: &S,
+    defs: &[Def],
+    names: &mut Names<S::Value>,
+    p: &mut Progress<S::Store>,
+    body: &[Stmt],
+) -> Result<(), EvalErr>
+    ensures ok { IfOk result (λ _. within (run_all (S.ops m.now) (calls_of (S.ops m.now) defs.now) body.now) names.old p.old ≡ Ok (names.new, p.new)) }
+    ensures err { IfErr result (λ e. Refuses e (within (run_all (S.ops m.now) (calls_of (S.ops m.now) defs.now) body.now) names.old p.old)) }
+{
+    let visible = names.len();
+    run_all(alloc, m, defs, names, p, body)?;
     names.keep_first(visible);
     Ok(())
 }
@@ -288,15 +381,16 @@ fn run_turn<S: Secrets>(
 pub fn run_all<S: Secrets>(
     alloc: Global,
     m: &S,
+    defs: &[Def],
     names: &mut Names<S::Value>,
     p: &mut Progress<S::Store>,
     body: &[Stmt],
 ) -> Result<(), EvalErr>
-    ensures ok { IfOk result (λ _. run_all (S.ops m.now) body.now names.old p.old ≡ Ok (names.new, p.new)) }
-    ensures err { IfErr result (λ e. Refuses e (run_all (S.ops m.now) body.now names.old p.old)) }
+    ensures ok { IfOk result (λ _. run_all (S.ops m.now) (calls_of (S.ops m.now) defs.now) body.now names.old p.old ≡ Ok (names.new, p.new)) }
+    ensures err { IfErr result (λ e. Refuses e (run_all (S.ops m.now) (calls_of (S.ops m.now) defs.now) body.now names.old p.old)) }
 {
     for s in body {
-        run(alloc, m, names, p, s)?;
+        run(alloc, m, defs, names, p, s)?;
     }
     Ok(())
 }

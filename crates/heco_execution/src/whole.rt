@@ -121,6 +121,13 @@ pub fn execute<S: Secrets>(
     ensures err { IfErr result (λ e. Refuses e (execute (S.ops m.now) source.now rows.now p.old)) }
 {
     let mut names = opened(alloc, m, source.ports.as_slice(), rows, p)?;
-    run_all(alloc, m, &mut names, p, source.body.as_slice())?;
+    run_all(
+        alloc,
+        m,
+        source.defs.as_slice(),
+        &mut names,
+        p,
+        source.body.as_slice(),
+    )?;
     Ok(outputs(alloc, m, source.ports.as_slice(), &names, p)?)
 }

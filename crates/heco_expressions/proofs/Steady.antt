@@ -7,9 +7,10 @@ use Rattle.heco_syntax.specs.declared.lexeme.Lexeme.{Lexeme}
 use Rattle.heco_expressions.specs.declared.cursor.Start.{Start}
 use Rattle.heco_expressions.specs.declared.cursor.Start.TheVariants as starts
 use Rattle.heco_syntax.specs.declared.tree.Expr.{Expr}
+use Rattle.heco_syntax.specs.declared.tree.Ident.{Ident}
 use Rattle.heco_syntax.specs.declared.tree.Expr.TheVariants as e
-use Rattle.heco_syntax.specs.Parts.{place_of, ident_of, num_of, sum_of, product_of, sum_sign, product_sign, sum_part, product_part}
-use Rattle.heco_expressions.specs.Reading.{Outcome, Parser, found, syntax, nested, and_then, gives, take_one, start, is_at, same_kind, expect, word, number, closed, index_of, group_of, negative_of, named_flat, named_deep, factor_flat, factor_deep, signed, behind, parts_from, parts_by, factors_after, products_after}
+use Rattle.heco_syntax.specs.Parts.{place_of, ident_of, num_of, comma, sum_of, product_of, sum_sign, product_sign, sum_part, product_part}
+use Rattle.heco_expressions.specs.Reading.{Outcome, Parser, found, syntax, nested, and_then, gives, take_one, start, is_at, same_kind, expect, word, number, closed, index_of, call_of, indexed_deep, called_deep, group_of, negative_of, named_flat, named_deep, factor_flat, factor_deep, signed, behind, parts_from, parts_by, factors_after, products_after}
 use Rattle.heco_expressions.specs.Reading as read
 
 abbrev pub left : {A : Type 0} → Outcome A → List Lexeme
@@ -160,21 +161,37 @@ module _ (f : Parser Expr) (s : Steady f) where
   sum_steady = then_steady (read.product f) (products_after f) product_steady (λ first. then_steady (λ ts. parts_from sum_sign sum_part (read.product f) (length ts) [] ts) (λ ps. gives (sum_of first) ps)
       (parts_steady sum_sign sum_part (read.product f) product_steady []) (λ ps. gives_steady (sum_of first) ps))
 
-  closed_steady : (kind : TokenKind) (g : Expr → Expr) (x : Expr) → Steady (closed kind g x)
+  closed_steady : {A : Type 0} (kind : TokenKind) (g : A → Expr) (x : A) → Steady (closed kind g x)
   closed_steady kind g x = then_steady (expect kind) (λ at. gives (λ a. g x) at) (one_steady place_of kind) (λ at. gives_steady (λ a. g x) at)
+
+  further_steady : (first : Expr) → Steady (read.further f first)
+  further_steady first = parts_steady comma (λ at x. x) (read.sum f) sum_steady (first ∷ [])
+
+  arguments_steady : Steady (read.arguments f)
+  unfolding read.arguments
+  arguments_steady = at_steady k.Close (λ ts. found [] ts) (λ ts. and_then (read.sum f ts) (read.further f)) (gives_steady (λ (xs : List Expr). xs) []) (then_steady (read.sum f) (read.further f) sum_steady further_steady)
+
+  indexed_steady : (id : Ident) → Steady (indexed_deep f id)
+  indexed_steady id = then_steady (expect k.OpenBracket) (λ at. index_of f id) (one_steady place_of k.OpenBracket) (λ at. then_steady (read.sum f) (closed k.CloseBracket (e.Item id)) sum_steady (λ x. closed_steady k.CloseBracket (e.Item id) x))
+
+  called_steady : (id : Ident) → Steady (called_deep f id)
+  called_steady id = then_steady (expect k.Open) (λ at. call_of f id) (one_steady place_of k.Open) (λ at. then_steady (read.arguments f) (closed k.Close (e.Call id)) arguments_steady (λ xs. closed_steady k.Close (e.Call id) xs))
+
+  named_steady : (id : Ident) → Steady (named_deep f id)
+  named_steady id = at_steady k.OpenBracket (indexed_deep f id) (λ ts. if is_at k.Open ts then called_deep f id ts else found (e.One id) ts) (indexed_steady id)
+      (at_steady k.Open (called_deep f id) (λ ts. found (e.One id) ts) (called_steady id) (gives_steady e.One id))
 
   deep_steady : (c : Start) → Steady (factor_deep f c)
   deep_steady starts.Number = then_steady number (λ v. gives e.Lit v) (one_steady num_of k.Number) (λ v. gives_steady e.Lit v)
-  deep_steady starts.Word = then_steady word (named_deep f) (one_steady ident_of k.Word) (λ id. at_steady k.OpenBracket (λ ts. and_then (expect k.OpenBracket ts) (λ at. index_of f id)) (λ ts. found (e.One id) ts)
-      (then_steady (expect k.OpenBracket) (λ at. index_of f id) (one_steady place_of k.OpenBracket) (λ at. then_steady (read.sum f) (closed k.CloseBracket (e.Item id)) sum_steady (λ x. closed_steady k.CloseBracket (e.Item id) x)))
-      (gives_steady e.One id))
+  deep_steady starts.Word = then_steady word (named_deep f) (one_steady ident_of k.Word) named_steady
   deep_steady starts.Minus = then_steady (expect k.Minus) (negative_of f) (one_steady place_of k.Minus) (λ at. then_steady f (λ y. gives (e.Neg at) y) s (λ y. gives_steady (e.Neg at) y))
   deep_steady starts.Open = then_steady (expect k.Open) (λ at. group_of f) (one_steady place_of k.Open) (λ at. then_steady (read.sum f) (closed k.Close (λ x. x)) sum_steady (λ x. closed_steady k.Close (λ x. x) x))
   deep_steady starts.Other = syntax_steady
 
 flat_steady : (c : Start) → Steady (factor_flat c)
 flat_steady starts.Number = then_steady number (λ v. gives e.Lit v) (one_steady num_of k.Number) (λ v. gives_steady e.Lit v)
-flat_steady starts.Word = then_steady word named_flat (one_steady ident_of k.Word) (λ id. at_steady k.OpenBracket (λ ts. nested ts) (λ ts. found (e.One id) ts) nested_steady (gives_steady e.One id))
+flat_steady starts.Word = then_steady word named_flat (one_steady ident_of k.Word)
+    (λ id. at_steady k.OpenBracket (λ ts. nested ts) (λ ts. if is_at k.Open ts then nested ts else found (e.One id) ts) nested_steady (at_steady k.Open (λ ts. nested ts) (λ ts. found (e.One id) ts) nested_steady (gives_steady e.One id)))
 flat_steady starts.Minus = nested_steady
 flat_steady starts.Open = nested_steady
 flat_steady starts.Other = syntax_steady

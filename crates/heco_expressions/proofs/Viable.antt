@@ -10,14 +10,14 @@ use Rattle.heco_expressions.specs.declared.cursor.Start.TheVariants as starts
 use Rattle.heco_syntax.specs.declared.tree.Expr.{Expr}
 use Rattle.heco_syntax.specs.declared.tree.Expr.TheVariants as e
 use Rattle.heco_syntax.specs.declared.tree.Ident.{Ident}
-use Rattle.heco_syntax.specs.Parts.{place_of, ident_of, num_of, sum_of, product_of, sum_sign, product_sign, sum_part, product_part}
-use Rattle.heco_expressions.specs.Reading.{Outcome, Parser, found, syntax, nested, and_then, gives, take_one, start, is_at, same_kind, expect, word, number, closed, index_of, group_of, negative_of, named_flat, named_deep, parts_from, factors_after, products_after}
+use Rattle.heco_syntax.specs.Parts.{place_of, ident_of, num_of, comma, sum_of, product_of, sum_sign, product_sign, sum_part, product_part}
+use Rattle.heco_expressions.specs.Reading.{Outcome, Parser, found, syntax, nested, and_then, gives, take_one, start, is_at, same_kind, expect, word, number, closed, index_of, group_of, negative_of, named_flat, named_deep, indexed_deep, called_deep, call_of, parts_from, factors_after, products_after}
 use Rattle.heco_expressions.specs.Reading as read
 use Rattle.heco_expressions.specs.Reading.{factor_by, named_by, start_of}
-use Rattle.heco_syntax.specs.Grammar.{IsFactor, IsProduct, AreFactors, IsSum, AreProducts, literal, name, item, negative, group, product, no_factor, factors, sum, no_product, products}
+use Rattle.heco_syntax.specs.Grammar.{IsFactor, AreArguments, AreFurther, IsProduct, AreFactors, IsSum, AreProducts, literal, name, item, negative, group, call, no_argument, arguments, no_further, further, product, no_factor, factors, sum, no_product, products}
 use Rattle.heco_expressions.proofs.Verdicts.{Verdict, was_found, was_syntax, was_nested, then_verdict, deeper_verdict, plain, kinds_same, IsOne, one_verdict, weak_one, IsEnd, end_verdict, Behind, parts_verdict, Filled}
 use Rattle.heco_expressions.proofs.Levels.{factor_starts}
-use Rattle.heco_expressions.proofs.Weaken.{weaken_factor, weaken_factors, weaken_product, weaken_products, weaken_sum}
+use Rattle.heco_expressions.proofs.Weaken.{weaken_factor, weaken_arguments, weaken_further, weaken_factors, weaken_product, weaken_products, weaken_sum}
 
 some_literal : (n : ℕ) → IsFactor n (plain k.Number ∷ []) (e.Lit (num_of (plain k.Number)))
 some_literal n = literal refl refl
@@ -77,21 +77,28 @@ record IsClose (kind : TokenKind) (y : Expr) (n : ℕ) (us : List Lexeme) (z : E
   closes : c.kind ≡ kind
   is : z ≡ y
 
-close_verdict : (kind : TokenKind) (g : Expr → Expr) (x : Expr) (n : ℕ) (ts : List Lexeme) → Verdict (IsClose kind (g x)) n ts (closed kind g x ts)
+close_verdict : {A : Type 0} (kind : TokenKind) (g : A → Expr) (x : A) (n : ℕ) (ts : List Lexeme) → Verdict (IsClose kind (g x)) n ts (closed kind g x ts)
 close_verdict kind g x n ts = then_verdict (IsOne place_of kind) (λ at. IsEnd (g x)) (IsClose kind (g x))
     (λ m pre us y z i b. record { c = i.t; all = ap (λ w. pre ++ w) b.all ∙ append-nil pre ∙ i.all; closes = i.is; is = b.is })
     (λ m y. ([], g x, record { all = refl; is = refl }))
     (weak_one place_of kind) n ts (expect kind ts) (λ at. gives (λ a. g x) at) (one_verdict place_of kind n ts) (λ y mid. end_verdict (λ a. g x) n y mid)
 
--- an expression, and a token of the kind behind it
-record Within (kind : TokenKind) (g : Expr → Expr) (n : ℕ) (us : List Lexeme) (z : Expr) : Type 0 where
+-- what is spelled inside, and a token of the kind behind it
+record Within {A : Type 0} (Inner : ℕ → List Lexeme → A → Type 0) (kind : TokenKind) (g : A → Expr) (n : ℕ) (us : List Lexeme) (z : Expr) : Type 0 where
   ts : List Lexeme
   c : Lexeme
-  x : Expr
+  x : A
   all : us ≡ ts ++ c ∷ []
-  inner : IsSum n ts x
+  inner : Inner n ts x
   closes : c.kind ≡ kind
   is : z ≡ g x
+
+module _ {A : Type 0} (Inner : ℕ → List Lexeme → A → Type 0) (weak : (n : ℕ) (pre : List Lexeme) (x : A) → Inner n pre x → Inner (suc n) pre x) (kind : TokenKind) (g : A → Expr) where
+  within_verdict : (n : ℕ) (p : Parser A) (ts : List Lexeme) → Verdict Inner n ts (p ts) → Verdict (Within Inner kind g) n ts (and_then (p ts) (closed kind g))
+  within_verdict n p ts v = then_verdict Inner (λ x. IsClose kind (g x)) (Within Inner kind g)
+      (λ m pre us x y i b. record { ts = pre; c = b.c; x = x; all = ap (λ w. pre ++ w) b.all; inner = i; closes = b.closes; is = b.is })
+      (λ m x. (plain kind ∷ [], g x, record { c = plain kind; all = refl; closes = refl; is = refl }))
+      weak n ts (p ts) (closed kind g) v (λ x mid. close_verdict kind g x n mid)
 
 -- what stands behind a name, with whatever token spells the name
 record Named (id : Ident) (n : ℕ) (us : List Lexeme) (z : Expr) : Type 0 where
@@ -111,6 +118,9 @@ alone n id = record { whole = λ w h i. name h (ap e.One (sym i)) }
 indexed : (n : ℕ) (id : Ident) (o c : Lexeme) (ts : List Lexeme) (x z : Expr) → o.kind ≡ k.OpenBracket → c.kind ≡ k.CloseBracket → IsSum n ts x → z ≡ e.Item id x → Named id (suc n) (o ∷ (ts ++ c ∷ [])) z
 indexed n id o c ts x z ho hc i e' = record { whole = λ w h f. item c h ho i hc (e' ∙ ap (λ v. e.Item v x) (sym f)) }
 
+called : (n : ℕ) (id : Ident) (o c : Lexeme) (ts : List Lexeme) (xs : List Expr) (z : Expr) → o.kind ≡ k.Open → c.kind ≡ k.Close → AreArguments n ts xs → z ≡ e.Call id xs → Named id (suc n) (o ∷ (ts ++ c ∷ [])) z
+called n id o c ts xs z ho hc i e' = record { whole = λ w h f. call c h ho i hc (e' ∙ ap (λ v. e.Call v xs) (sym f)) }
+
 minus_is : (a : TokenKind) → start_of a ≡ starts.Minus → a ≡ k.Minus
 minus_is k.Minus h = refl
 minus_is a h = cc
@@ -122,44 +132,69 @@ open_is a h = cc
 flat_verdict : (id : Ident) (ts : List Lexeme) → Verdict (Named id) 0 ts (named_flat id ts)
 unfolding some_expr
 flat_verdict id [] = was_found [] [] (e.One id) refl (alone 0 id)
-flat_verdict id (o ∷ us) = by (same_kind o.kind k.OpenBracket) refl
+flat_verdict id (o ∷ us) = by (same_kind o.kind k.OpenBracket) (same_kind o.kind k.Open) refl refl
   where
-    by : (b : Bool) → same_kind o.kind k.OpenBracket ≡ b → Verdict (Named id) 0 (o ∷ us) (if b then nested (o ∷ us) else found (e.One id) (o ∷ us))
-    by true h = was_nested [] o us [] (plain k.Number ∷ plain k.CloseBracket ∷ []) (e.One id) (e.Item id some_expr) refl (alone 0 id)
+    by : (b c : Bool) → same_kind o.kind k.OpenBracket ≡ b → same_kind o.kind k.Open ≡ c
+        → Verdict (Named id) 0 (o ∷ us) (if b then nested (o ∷ us) else if c then nested (o ∷ us) else found (e.One id) (o ∷ us))
+    by true c h g = was_nested [] o us [] (plain k.Number ∷ plain k.CloseBracket ∷ []) (e.One id) (e.Item id some_expr) refl (alone 0 id)
         (indexed 0 id o (plain k.CloseBracket) (plain k.Number ∷ []) some_expr (e.Item id some_expr) (kinds_same o.kind k.OpenBracket h) refl (some_sum 0) refl)
-    by false h = was_found [] (o ∷ us) (e.One id) refl (alone 0 id)
+    by false true h g = was_nested [] o us [] (plain k.Close ∷ []) (e.One id) (e.Call id []) refl (alone 0 id)
+        (called 0 id o (plain k.Close) [] [] (e.Call id []) (kinds_same o.kind k.Open g) refl no_argument refl)
+    by false false h g = was_found [] (o ∷ us) (e.One id) refl (alone 0 id)
 
 module _ (n : ℕ) (f : Parser Expr) (each : (ts : List Lexeme) → Verdict IsFactor n ts (f ts)) where
-  within_verdict : (kind : TokenKind) (g : Expr → Expr) (ts : List Lexeme) → Verdict (Within kind g) n ts (and_then (read.sum f ts) (closed kind g))
-  within_verdict kind g ts = then_verdict IsSum (λ x. IsClose kind (g x)) (Within kind g)
-      (λ m pre us x y i b. record { ts = pre; c = b.c; x = x; all = ap (λ w. pre ++ w) b.all; inner = i; closes = b.closes; is = b.is })
-      (λ m x. (plain kind ∷ [], g x, record { c = plain kind; all = refl; closes = refl; is = refl }))
-      (λ m pre x i. weaken_sum i) n ts (read.sum f ts) (closed kind g) (sum_verdict n f each ts) (λ x mid. close_verdict kind g x n mid)
+  sum_within : (kind : TokenKind) (g : Expr → Expr) (ts : List Lexeme) → Verdict (Within IsSum kind g) n ts (and_then (read.sum f ts) (closed kind g))
+  sum_within kind g ts = within_verdict IsSum (λ m pre x i. weaken_sum i) kind g n (read.sum f) ts (sum_verdict n f each ts)
 
-  some_within : (kind : TokenKind) (g : Expr → Expr) (m : ℕ) → Filled (Within kind g) m
+  some_within : (kind : TokenKind) (g : Expr → Expr) (m : ℕ) → Filled (Within IsSum kind g) m
   unfolding some_expr
   some_within kind g m = (plain k.Number ∷ plain kind ∷ [], g some_expr, record { ts = plain k.Number ∷ []; c = plain kind; x = some_expr; all = refl; inner = some_sum m; closes = refl; is = refl })
 
-  index_verdict : (id : Ident) (ts : List Lexeme) → Verdict (Named id) (suc n) ts (and_then (expect k.OpenBracket ts) (λ at. index_of f id))
-  index_verdict id ts = deeper_verdict (λ m us z. Named id (suc m) us z) (Named id) (λ m us z i. i) n ts (and_then (expect k.OpenBracket ts) (λ at. index_of f id))
-      (then_verdict (IsOne place_of k.OpenBracket) (λ at. Within k.CloseBracket (e.Item id)) (λ m us z. Named id (suc m) us z)
+  -- further arguments behind a first
+  abbrev Further : Expr → ℕ → List Lexeme → List Expr → Type 0
+  Further first = Behind comma (λ at x. x) (read.sum f) IsSum AreFurther (λ m pre x i. weaken_sum i) (λ m. no_further) (λ m t s ts us x ps h i a. further h i a) (first ∷ [])
+
+  arguments_verdict : (ts : List Lexeme) → Verdict AreArguments n ts (read.arguments f ts)
+  unfolding read.arguments
+  arguments_verdict ts = by (is_at k.Close ts)
+    where
+      by : (b : Bool) → Verdict AreArguments n ts (if b then found [] ts else and_then (read.sum f ts) (read.further f))
+      by true = was_found [] ts [] refl no_argument
+      by false = then_verdict IsSum Further AreArguments
+          (λ m pre us x y i b. subst (λ v. AreArguments m (pre ++ us) v) (sym b.is) (arguments i b.are))
+          (λ m x. ([], x ∷ [], record { ps = []; are = no_further; is = refl }))
+          (λ m pre x i. weaken_sum i) n ts (read.sum f ts) (read.further f) (sum_verdict n f each ts)
+          (λ x mid. parts_verdict comma (λ at x. x) (read.sum f) IsSum AreFurther (λ m pre x i. weaken_sum i) (λ m. no_further) (λ m t s ts us x ps h i a. further h i a) n (sum_verdict n f each) (length mid) (x ∷ []) mid)
+
+  call_verdict : (id : Ident) (ts : List Lexeme) → Verdict (Named id) (suc n) ts (called_deep f id ts)
+  call_verdict id ts = deeper_verdict (λ m us z. Named id (suc m) us z) (Named id) (λ m us z i. i) n ts (called_deep f id ts)
+      (then_verdict (IsOne place_of k.Open) (λ at. Within AreArguments k.Close (e.Call id)) (λ m us z. Named id (suc m) us z)
+      (λ m pre us x y i b. subst (λ v. Named id (suc m) v y) (sym (ap (λ w. w ++ us) i.all ∙ ap (λ w. i.t ∷ w) b.all)) (called m id i.t b.c b.ts b.x y i.is b.closes b.inner b.is))
+      (λ m x. (plain k.Close ∷ [], e.Call id [], record { ts = []; c = plain k.Close; x = []; all = refl; inner = no_argument; closes = refl; is = refl }))
+      (weak_one place_of k.Open) n ts (expect k.Open ts) (λ at. call_of f id) (one_verdict place_of k.Open n ts)
+      (λ x mid. within_verdict AreArguments (λ m pre xs i. weaken_arguments i) k.Close (e.Call id) n (read.arguments f) mid (arguments_verdict mid)))
+
+  index_verdict : (id : Ident) (ts : List Lexeme) → Verdict (Named id) (suc n) ts (indexed_deep f id ts)
+  index_verdict id ts = deeper_verdict (λ m us z. Named id (suc m) us z) (Named id) (λ m us z i. i) n ts (indexed_deep f id ts)
+      (then_verdict (IsOne place_of k.OpenBracket) (λ at. Within IsSum k.CloseBracket (e.Item id)) (λ m us z. Named id (suc m) us z)
       (λ m pre us x y i b. subst (λ v. Named id (suc m) v y) (sym (ap (λ w. w ++ us) i.all ∙ ap (λ w. i.t ∷ w) b.all)) (indexed m id i.t b.c b.ts b.x y i.is b.closes b.inner b.is))
       (λ m x. some_within k.CloseBracket (e.Item id) m)
-      (weak_one place_of k.OpenBracket) n ts (expect k.OpenBracket ts) (λ at. index_of f id) (one_verdict place_of k.OpenBracket n ts) (λ x mid. within_verdict k.CloseBracket (e.Item id) mid))
+      (weak_one place_of k.OpenBracket) n ts (expect k.OpenBracket ts) (λ at. index_of f id) (one_verdict place_of k.OpenBracket n ts) (λ x mid. sum_within k.CloseBracket (e.Item id) mid))
 
   deep_verdict : (id : Ident) (ts : List Lexeme) → Verdict (Named id) (suc n) ts (named_deep f id ts)
-  deep_verdict id ts = by (is_at k.OpenBracket ts)
+  deep_verdict id ts = by (is_at k.OpenBracket ts) (is_at k.Open ts)
     where
-      by : (b : Bool) → Verdict (Named id) (suc n) ts (if b then and_then (expect k.OpenBracket ts) (λ at. index_of f id) else found (e.One id) ts)
-      by true = index_verdict id ts
-      by false = was_found [] ts (e.One id) refl (alone (suc n) id)
+      by : (b c : Bool) → Verdict (Named id) (suc n) ts (if b then indexed_deep f id ts else if c then called_deep f id ts else found (e.One id) ts)
+      by true c = index_verdict id ts
+      by false true = call_verdict id ts
+      by false false = was_found [] ts (e.One id) refl (alone (suc n) id)
 
   group_verdict : (ts : List Lexeme) → Verdict IsFactor (suc n) ts (and_then (expect k.Open ts) (λ at. group_of f))
   group_verdict ts = deeper_verdict (λ m us z. IsFactor (suc m) us z) IsFactor (λ m us z i. i) n ts (and_then (expect k.Open ts) (λ at. group_of f))
-      (then_verdict (IsOne place_of k.Open) (λ at. Within k.Close (λ x. x)) (λ m us z. IsFactor (suc m) us z)
+      (then_verdict (IsOne place_of k.Open) (λ at. Within IsSum k.Close (λ x. x)) (λ m us z. IsFactor (suc m) us z)
       (λ m pre us x y i b. subst (λ v. IsFactor (suc m) v y) (sym (ap (λ w. w ++ us) i.all ∙ ap (λ w. i.t ∷ w) b.all)) (group b.c i.is (subst (λ v. IsSum m b.ts v) (sym b.is) b.inner) b.closes))
       (λ m x. some_within k.Close (λ x. x) m)
-      (weak_one place_of k.Open) n ts (expect k.Open ts) (λ at. group_of f) (one_verdict place_of k.Open n ts) (λ x mid. within_verdict k.Close (λ x. x) mid))
+      (weak_one place_of k.Open) n ts (expect k.Open ts) (λ at. group_of f) (one_verdict place_of k.Open n ts) (λ x mid. sum_within k.Close (λ x. x) mid))
 
   negative_verdict : (ts : List Lexeme) → Verdict IsFactor (suc n) ts (and_then (expect k.Minus ts) (negative_of f))
   unfolding some_expr

@@ -3,7 +3,7 @@ use Rattle.std.specs.Prelude.{◌≡◌, ℕ, zero, suc, List, [], ◌∷◌, �
 use Rattle.heco_lex.specs.declared.place.Place.{Place}
 use Rattle.heco_lex.specs.declared.token.TokenKind.{TokenKind}
 use Rattle.heco_lex.specs.declared.token.TokenKind.TheVariants as k
-use Rattle.heco_syntax.specs.Parts.{place_of, ident_of, num_of, sum_sign, product_sign, sum_part, product_part, sum_of, product_of}
+use Rattle.heco_syntax.specs.Parts.{place_of, ident_of, num_of, comma, sum_sign, product_sign, sum_part, product_part, sum_of, product_of}
 use Rattle.heco_syntax.specs.declared.lexeme.Lexeme.{Lexeme}
 use Rattle.heco_expressions.specs.declared.cursor.Start.{Start}
 use Rattle.heco_expressions.specs.declared.cursor.Start.TheVariants as starts
@@ -145,19 +145,35 @@ module _ (factor : Parser Expr) where
   unfoldable pub sum : Parser Expr
   sum ts = and_then (product ts) products_after
 
-abbrev pub closed : TokenKind → (Expr → Expr) → Expr → Parser Expr
+abbrev pub closed : {A : Type 0} → TokenKind → (A → Expr) → A → Parser Expr
 closed kind f x ts = and_then (expect kind ts) (gives (λ at. f x))
 
--- a name alone, where no index may follow
+-- a name alone, where neither an index nor arguments may follow
 abbrev pub named_flat : Ident → Parser Expr
-named_flat name ts = if is_at k.OpenBracket ts then nested ts else found (e.One name) ts
+named_flat name ts = if is_at k.OpenBracket ts then nested ts else if is_at k.Open ts then nested ts else found (e.One name) ts
 
 module _ (factor : Parser Expr) where
   abbrev pub index_of : Ident → Parser Expr
   index_of name ts = and_then (sum factor ts) (closed k.CloseBracket (e.Item name))
 
+  abbrev pub further : Expr → Parser (List Expr)
+  further first ts = parts_from comma (λ at x. x) (sum factor) (length ts) (first ∷ []) ts
+
+  -- the arguments of a call, up to its ")"
+  unfoldable pub arguments : Parser (List Expr)
+  arguments ts = if is_at k.Close ts then found [] ts else and_then (sum factor ts) further
+
+  abbrev pub call_of : Ident → Parser Expr
+  call_of name ts = and_then (arguments ts) (closed k.Close (e.Call name))
+
+  abbrev pub indexed_deep : Ident → Parser Expr
+  indexed_deep name ts = and_then (expect k.OpenBracket ts) (λ at. index_of name)
+
+  abbrev pub called_deep : Ident → Parser Expr
+  called_deep name ts = and_then (expect k.Open ts) (λ at. call_of name)
+
   abbrev pub named_deep : Ident → Parser Expr
-  named_deep name ts = if is_at k.OpenBracket ts then and_then (expect k.OpenBracket ts) (λ at. index_of name) else found (e.One name) ts
+  named_deep name ts = if is_at k.OpenBracket ts then indexed_deep name ts else if is_at k.Open ts then called_deep name ts else found (e.One name) ts
 
   abbrev pub group_of : Parser Expr
   group_of ts = and_then (sum factor ts) (closed k.Close (λ x. x))
@@ -187,6 +203,14 @@ factor (suc n) ts = factor_deep (factor n) (start ts) ts
 abbrev pub named_by : ℕ → Ident → Parser Expr
 named_by zero = named_flat
 named_by (suc n) = named_deep (factor n)
+
+abbrev pub indexed : ℕ → Ident → Parser Expr
+indexed zero name ts = nested ts
+indexed (suc n) name ts = indexed_deep (factor n) name ts
+
+abbrev pub called : ℕ → Ident → Parser Expr
+called zero name ts = nested ts
+called (suc n) name ts = called_deep (factor n) name ts
 
 abbrev pub named : ℕ → Parser Expr
 named n ts = and_then (word ts) (named_by n)

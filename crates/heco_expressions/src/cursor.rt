@@ -144,6 +144,7 @@ impl<'a> Cursor<'a> {
                     TokenKind::Int => First::Int(token.at),
                     TokenKind::Secret => First::Secret(token.at),
                     TokenKind::For => First::For(token.at),
+                    TokenKind::If => First::If(token.at),
                     TokenKind::Word => {
                         let text = Bytes::from_slice(alloc, token.text.as_slice())?;
                         First::Name(Ident { text, at: token.at })
@@ -202,6 +203,22 @@ impl<'a> Cursor<'a> {
             [] => None,
             [first, others @ ..] => match first.kind {
                 TokenKind::Comma => {
+                    self.rest = others;
+                    Some(first.at)
+                }
+                _ => None,
+            },
+        }
+    }
+
+    /// Takes `def`, if it comes next, and gives its place.
+    pub fn def_sign(&mut self) -> Option<Place>
+        ensures { MatchOption result ((spec.signed parts.def_sign self.old ≡ None) × (self.new ≡ self.old)) (λ s. spec.signed parts.def_sign self.old ≡ Some (s, self.new)) }
+    {
+        match self.rest {
+            [] => None,
+            [first, others @ ..] => match first.kind {
+                TokenKind::Def => {
                     self.rest = others;
                     Some(first.at)
                 }

@@ -62,15 +62,26 @@ fn factor(alloc: Global, cursor: &mut Cursor<'_>, levels: u32) -> Result<Expr, S
     }
 }
 
-// A name, with an index where one follows.
+// A name, with an index or arguments where they follow.
 #[cycle(expression)]
 fn named(alloc: Global, cursor: &mut Cursor<'_>, levels: u32) -> Result<Expr, Stop>
     ensures { Reads (spec.named levels cursor.old) result cursor.new }
 {
     let name = cursor.word(alloc)?;
-    if !cursor.is_at(TokenKind::OpenBracket) {
-        return Ok(Expr::One(name));
+    if cursor.is_at(TokenKind::OpenBracket) {
+        return indexed(alloc, cursor, levels, name);
     }
+    if cursor.is_at(TokenKind::Open) {
+        return called(alloc, cursor, levels, name);
+    }
+    Ok(Expr::One(name))
+}
+
+// The index behind a name.
+#[cycle(expression)]
+fn indexed(alloc: Global, cursor: &mut Cursor<'_>, levels: u32, name: Ident) -> Result<Expr, Stop>
+    ensures { Reads (spec.indexed levels name cursor.old) result cursor.new }
+{
     if levels == 0 {
         return Err(Stop::TooNested);
     }
@@ -78,6 +89,55 @@ fn named(alloc: Global, cursor: &mut Cursor<'_>, levels: u32) -> Result<Expr, St
     let index = sum(alloc, cursor, levels - 1)?;
     cursor.expect(TokenKind::CloseBracket)?;
     item(alloc, name, index)
+}
+
+// The arguments behind a name.
+#[cycle(expression)]
+fn called(alloc: Global, cursor: &mut Cursor<'_>, levels: u32, name: Ident) -> Result<Expr, Stop>
+    ensures { Reads (spec.called levels name cursor.old) result cursor.new }
+{
+    if levels == 0 {
+        return Err(Stop::TooNested);
+    }
+    cursor.expect(TokenKind::Open)?;
+    let args = arguments(alloc, cursor, levels - 1)?;
+    cursor.expect(TokenKind::Close)?;
+    Ok(Expr::Call { name, args })
+}
+
+// The arguments up to the `)`, which stays.
+#[cycle(expression)]
+#[tactic(auto, unfolding(crate::specs::Reading::arguments))]
+fn arguments(alloc: Global, cursor: &mut Cursor<'_>, levels: u32) -> Result<List<Expr>, Stop>
+    ensures { Reads (spec.arguments (spec.factor levels) cursor.old) result cursor.new }
+{
+    if cursor.is_at(TokenKind::Close) {
+        return Ok(List::new(alloc));
+    }
+    let first = sum(alloc, cursor, levels)?;
+    further(alloc, cursor, levels, first)
+}
+
+#[cycle(expression)]
+#[tactic(auto, unfolding(crate::specs::Reading::parts_from))]
+fn further(
+    alloc: Global,
+    cursor: &mut Cursor<'_>,
+    levels: u32,
+    first: Expr,
+) -> Result<List<Expr>, Stop>
+    ensures { Reads (spec.further (spec.factor levels) first cursor.old) result cursor.new }
+{
+    let mut found = List::new(alloc);
+    found.push(first)?;
+    for _turn in 0..cursor.len() {
+        let Some(_at) = cursor.comma() else {
+            return Ok(found);
+        };
+        let x = sum(alloc, cursor, levels)?;
+        found.push(x)?;
+    }
+    Ok(found)
 }
 
 #[cycle(expression)]

@@ -3,7 +3,7 @@ use Rattle.std.proofs.Common.{◌≡◌, ◌≤◌, ◌<◌, ◌+◌, ◌-◌, �
 use Rattle.std.proofs.Math.Nat.{mul-le-mul_right}
 use Rattle.std.specs.Prelude.{codes}
 use Rattle.std.specs.Int.{w8, w16, w32, w64}
-use Rattle.heco_fields.specs.Formats.{Format, Value, ◌>>=◌ as ◌then◌, many, within, any, fixed, header}
+use Rattle.heco_fields.specs.Formats.{Format, Value, ◌>>=◌ as ◌then◌, many, within, any, fixed, versioned, header}
 use Rattle.heco_fields.specs.Runs.{stays}
 use Rattle.heco_lists.specs.ListFormat.{sparse, place, counted, words, word}
 use Rattle.heco_key_files.specs.Judging.{whole}
@@ -23,13 +23,17 @@ unfolding Spans
 drop_has most Has (Format.Value x) h = tt
 drop_has most Has (Format.Field w allowed f) h = (h.0, λ b long ok. drop_has (most - w) Has (f b) (h.1 b long ok))
 
-spans_header : (magic : List ℕ) → length magic ≡ 4 → Spans 6 Any (header magic)
-unfolding header Spans
-spans_header magic four =
+spans_versioned : (newest : ℕ) (magic : List ℕ) → length magic ≡ 4 → Spans 6 Any (versioned newest magic)
+unfolding versioned Spans
+spans_versioned newest magic four =
     let first : Spans (length magic) Any (fixed magic) = spans_field (length magic) _ (λ b. b) Any (λ b ok. tt) in
     spans_then (fixed magic) _ 4 2 Any Any (spans_at (length magic) 4 (fixed magic) four first)
-    (λ text _. spans_then (within w8 1 1) _ 1 1 (λ n. n ≤ 1) Any (spans_within w8 1 1)
+    (λ text _. spans_then (within w8 1 newest) _ 1 1 (λ n. n ≤ newest) Any (spans_within w8 1 newest)
     (λ version _. spans_then (within w8 1 5) _ 1 0 (λ n. n ≤ 5) Any (spans_within w8 1 5) (λ preset _. tt)))
+
+spans_header : (magic : List ℕ) → length magic ≡ 4 → Spans 6 Any (header magic)
+unfolding header Spans
+spans_header magic four = spans_then (versioned 1 magic) _ 6 0 Any Any (spans_versioned 1 magic four) (λ h _. tt)
 
 spans_words : (n : ℕ) → Spans (8 * n) Any (words n)
 unfolding words

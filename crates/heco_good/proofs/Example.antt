@@ -13,7 +13,7 @@ use Rattle.heco_syntax.specs.declared.tree.Source.{Source}
 use Rattle.heco_syntax.specs.declared.tree.Stmt.{Stmt, roll-Stmt}
 use Rattle.heco_syntax.specs.declared.tree.Stmt.TheFolds.{fold-roll-Stmt}
 use Rattle.heco_syntax.specs.declared.tree.Stmt.TheOpen.{Stmt-F}
-use Rattle.heco_execution.specs.Evaluation.{Evaluation, Part, layer, sum_layer, product_layer, evaluate}
+use Rattle.heco_execution.specs.Evaluation.{Calls, Evaluation, Part, calls_of, layer, sum_layer, product_layer, evaluate}
 use Rattle.heco_execution.specs.Execution.{Run, assigned, combined, in_order, run, statement, target_index}
 use Rattle.heco_execution.specs.Laws.{source_terms, elements}
 use Rattle.heco_execution.specs.Outcomes.{Outcome, after}
@@ -67,13 +67,17 @@ times = roll-Stmt (Stmt-F.Set y None Mul at value)
 
 -- params p8; fn f(in x, out y) { y = x; y *= x; }
 abbrev source : Source
-source = record { params = record { text = codes "p8"; at = at }; name = record { text = codes "f"; at = at }; ports = ports; body = put ∷ times ∷ [] }
+source = record { params = record { text = codes "p8"; at = at }; name = record { text = codes "f"; at = at }; defs = []; ports = ports; body = put ∷ times ∷ [] }
 
 abbrev squares : List (List ScalarTerm)
 squares = (Product (Element 0 0) (Element 0 0) ∷ []) ∷ []
 
 abbrev ops : Stored (Unit {0}) ScalarTerm
 ops = storeless {S = Unit {0}} (terms 257)
+
+-- nothing is defined that may be called
+abbrev calls : Calls (Unit {0}) ScalarTerm
+calls = calls_of ops []
 
 abbrev Runs : Type 0
 Runs = Run (Unit {0}) ScalarTerm
@@ -82,28 +86,28 @@ Runs = Run (Unit {0}) ScalarTerm
 abbrev assigning : SetOp → Evaluation (Unit {0}) ScalarTerm → Runs
 assigning op eval state =
     then (count 1 at) (λ _.
-    then (target_index ops None state) (λ i.
+    then (target_index ops calls None state) (λ i.
     then (test (element y state i)) (λ target.
     then (eval state) (λ v.
     then (combined ops op at target.value v) (λ u. give (replaced state target u))))))
 
-value_is : evaluate ops value ≡ layer ops (Expr-F.One x)
+value_is : evaluate ops calls value ≡ layer ops calls (Expr-F.One x)
 unfolding value
-value_is = fold-roll-Expr (Evaluation (Unit {0}) ScalarTerm) (Part (Unit {0}) ScalarTerm) (Part (Unit {0}) ScalarTerm) (layer ops) (product_layer ops) (sum_layer ops) (Expr-F.One x)
+value_is = fold-roll-Expr (Evaluation (Unit {0}) ScalarTerm) (Part (Unit {0}) ScalarTerm) (Part (Unit {0}) ScalarTerm) (layer ops calls) (product_layer ops) (sum_layer ops) (Expr-F.One x)
 
-put_is : run ops put ≡ assigning Put (layer ops (Expr-F.One x))
+put_is : run ops calls put ≡ assigning Put (layer ops calls (Expr-F.One x))
 unfolding put assigned
-put_is = fold-roll-Stmt Runs (statement ops) (Stmt-F.Set y None Put at value) ∙ ap (assigning Put) value_is
+put_is = fold-roll-Stmt Runs (statement ops calls) (Stmt-F.Set y None Put at value) ∙ ap (assigning Put) value_is
 
-times_is : run ops times ≡ assigning Mul (layer ops (Expr-F.One x))
+times_is : run ops calls times ≡ assigning Mul (layer ops calls (Expr-F.One x))
 unfolding times assigned
-times_is = fold-roll-Stmt Runs (statement ops) (Stmt-F.Set y None Mul at value) ∙ ap (assigning Mul) value_is
+times_is = fold-roll-Stmt Runs (statement ops calls) (Stmt-F.Set y None Mul at value) ∙ ap (assigning Mul) value_is
 
 abbrev executing : Runs → Runs → Outcome (List (List ScalarTerm))
 executing r s =
     after (then (opened ops ports (elements 0 (1 ∷ [])) nothing) (λ start. then (in_order (r ∷ s ∷ []) start) (λ end. outputs ops ports end [])) (record { steps = 0; store = tt })) (λ u. Ok u.0)
 
-computed : executing (assigning Put (layer ops (Expr-F.One x))) (assigning Mul (layer ops (Expr-F.One x))) ≡ Ok squares
+computed : executing (assigning Put (layer ops calls (Expr-F.One x))) (assigning Mul (layer ops calls (Expr-F.One x))) ≡ Ok squares
 unfolding declared with_output
 computed = refl
 

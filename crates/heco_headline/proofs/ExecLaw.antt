@@ -17,7 +17,7 @@ use Rattle.heco_sources.specs.Inputs.{input_shapes, IsInput}
 use Rattle.heco_syntax.specs.declared.tree.Source.{Source}
 use Rattle.heco_written.specs.Needs.{turn_amounts}
 use Rattle.heco_written.specs.ScalarTerm.{ScalarTerm}
-use Rattle.heco_thrift.specs.Thrift.{vectors_of}
+use Rattle.heco_written.specs.WrittenForm.{vectors_of}
 use Rattle.heco_circuit.specs.Needs.{needed_keys}
 use Rattle.heco_end_to_end.specs.EndToEnd.{IsRunnable}
 use Rattle.heco_good.specs.Good.{Good, preset_named, slots, homes_of}

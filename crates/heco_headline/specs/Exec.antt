@@ -15,7 +15,7 @@ use Rattle.heco_sources.specs.Inputs.{input_shapes, IsInput}
 use Rattle.heco_syntax.specs.declared.tree.Source.{Source}
 use Rattle.heco_written.specs.Needs.{needs_relinearisation, turn_amounts}
 use Rattle.heco_written.specs.ScalarTerm.{ScalarTerm}
-use Rattle.heco_thrift.specs.Thrift.{vectors_of}
+use Rattle.heco_written.specs.WrittenForm.{vectors_of}
 use Rattle.heco_end_to_end.specs.EndToEnd.{IsRunnable, run_result}
 use Rattle.heco_products.specs.KeyProducts.{circuit_key, evaluation_file, secret_file}
 use Rattle.heco_products.specs.Results.{results_file}

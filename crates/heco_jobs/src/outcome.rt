@@ -10,7 +10,7 @@ use heco_texts::InputRule;
 #[derive(Clone, Copy, Debug, PartialEq, Eq)]
 pub enum Refusal {
     Usage,
-    /// The source has more than 65,536 bytes.
+    /// The source has more than 1,048,576 bytes.
     SourceLong,
     /// The first rule of reading, of typing or of execution that the source breaks, and the place of its byte or token.
     At { rule: Rule, at: Place },

@@ -5,7 +5,7 @@ use Rattle.std.specs.List.{flat_map}
 use Rattle.heco_lex.specs.declared.place.Place.{Place}
 use Rattle.heco_lex.specs.declared.token.TokenKind.{TokenKind}
 use Rattle.heco_lex.specs.declared.token.TokenKind.TheVariants as k
-use Rattle.heco_syntax.specs.Grammar.{IsFactor, IsProduct, AreFactors, IsSum, AreProducts, literal, name, item, negative, group, product, no_factor, factors, sum, no_product, products}
+use Rattle.heco_syntax.specs.Grammar.{IsFactor, AreArguments, AreFurther, IsProduct, AreFactors, IsSum, AreProducts, literal, name, item, negative, group, call, no_argument, arguments, no_further, further, product, no_factor, factors, sum, no_product, products}
 use Rattle.heco_syntax.specs.Kept.{Kept, kept_ident, kept_num, kept_place, kept_step, kept_sum_step, kept_product_step, kept_sum_part, kept_product_part, kept_expr}
 use Rattle.heco_syntax.specs.Parts.{ident_of, num_of, with_place, sum_sign_of, product_sign_by, sum_part, product_part, sum_of, product_of}
 use Rattle.heco_syntax.specs.declared.lexeme.Lexeme.{Lexeme}
@@ -26,6 +26,10 @@ kept_one id = ap kept_expr (sym (e.rolls-One id)) ∙ fold-roll-Expr (List Kept)
 
 kept_item : (id : Ident) (x : Expr) → kept_expr (e.Item id x) ≡ kept_ident id ++ kept_expr x
 kept_item id x = ap kept_expr (sym (e.rolls-Item id x)) ∙ fold-roll-Expr (List Kept) (List Kept) (List Kept) kept_step kept_product_step kept_sum_step (Expr-F.Item id x)
+
+kept_call : (id : Ident) (xs : List Expr) → kept_expr (e.Call id xs) ≡ kept_ident id ++ flat_map kept_expr xs
+kept_call id xs = ap kept_expr (sym (e.rolls-Call id xs)) ∙ fold-roll-Expr (List Kept) (List Kept) (List Kept) kept_step kept_product_step kept_sum_step (Expr-F.Call id xs)
+    ∙ ap (λ v. kept_ident id ++ v) (flat_map-map (λ p. p) kept_expr xs)
 
 kept_neg : (at : Place) (x : Expr) → kept_expr (e.Neg at x) ≡ kept_place at ++ kept_expr x
 kept_neg at x = ap kept_expr (sym (e.rolls-Neg at x)) ∙ fold-roll-Expr (List Kept) (List Kept) (List Kept) kept_step kept_product_step kept_sum_step (Expr-F.Neg at x)
@@ -71,6 +75,16 @@ mutual
       subst (λ v. Picks (w ∷ o ∷ (ts ++ c ∷ [])) v) (sym (ap kept_expr is ∙ kept_item (ident_of w) i)) (pick (word_kept w h) (skip (passed c (sum_picked inner))))
   factor_picked (negative {t = t} {ts = ts} {y = y} h i is) = subst (λ v. Picks (t ∷ ts) v) (sym (ap kept_expr is ∙ kept_neg t.at y)) (pick (place_kept t) (factor_picked i))
   factor_picked (group c ho i hc) = skip (passed c (sum_picked i))
+  factor_picked (call {w = w} {o = o} c {ts = ts} {args = xs} h ho inner hc is) =
+      subst (λ v. Picks (w ∷ o ∷ (ts ++ c ∷ [])) v) (sym (ap kept_expr is ∙ kept_call (ident_of w) xs)) (pick (word_kept w h) (skip (passed c (arguments_picked inner))))
+
+  arguments_picked : {n : ℕ} {ts : List Lexeme} {xs : List Expr} → AreArguments n ts xs → Picks ts (flat_map kept_expr xs)
+  arguments_picked no_argument = ended
+  arguments_picked (arguments i a) = behind (sum_picked i) (further_picked a)
+
+  further_picked : {n : ℕ} {ts : List Lexeme} {xs : List Expr} → AreFurther n ts xs → Picks ts (flat_map kept_expr xs)
+  further_picked no_further = ended
+  further_picked (further s i a) = skip (behind (sum_picked i) (further_picked a))
 
   product_picked : {n : ℕ} {ts : List Lexeme} {x : Expr} → IsProduct n ts x → Picks ts (kept_expr x)
   product_picked (product {ts = ts} {us = us} {first = first} {ps = ps} i a is) = subst (λ v. Picks (ts ++ us) v) (sym (ap kept_expr is ∙ kept_product_of first ps)) (behind (factor_picked i) (factors_picked a))

@@ -1,18 +1,19 @@
 -- What statements and sources keep is picked from their tokens.
-use Rattle.std.proofs.Common.{◌≡◌, ◌∙◌, sym, ap, subst, refl, ℕ, zero, suc, List, [], ◌∷◌, ◌++◌, Some, None, Option, append_assoc, ◌⊎◌}
+use Rattle.std.proofs.Common.{◌≡◌, ◌∙◌, sym, ap, subst, refl, ℕ, zero, suc, List, [], ◌∷◌, ◌++◌, Some, None, Option, append_assoc, ◌⊎◌, map}
 use Rattle.std.proofs.lemmas.List.Folds.{flat_map-map}
 use Rattle.std.specs.List.{flat_map}
 use Rattle.heco_lex.specs.declared.place.Place.{Place}
 use Rattle.heco_lex.specs.declared.token.TokenKind.{TokenKind}
 use Rattle.heco_lex.specs.declared.token.TokenKind.TheVariants as k
-use Rattle.heco_syntax.specs.Kept.{Kept, kept_ident, kept_num, kept_place, kept_expr, kept_some, kept_stmt_step, kept_stmt, kept_param, kept_source}
-use Rattle.heco_syntax.specs.Parts.{place_of, ident_of, comma, set_op, set_op_of, direction, first_of, first_by}
+use Rattle.heco_syntax.specs.Kept.{Kept, kept_ident, kept_num, kept_place, kept_expr, kept_some, kept_stmt_step, kept_stmt, kept_param, kept_def, kept_source}
+use Rattle.heco_syntax.specs.Parts.{place_of, ident_of, comma, def_sign, def_sign_by, set_op, set_op_of, direction, first_of, first_by}
 use Rattle.heco_syntax.specs.Productions.{Spells}
 use Rattle.heco_syntax.specs.Sources.{IsSource, IsBlock, block_or, no_block}
 use Rattle.heco_syntax.specs.Sources as g
 use Rattle.heco_syntax.specs.declared.first.First.{First}
 use Rattle.heco_syntax.specs.declared.first.First.TheVariants as first
 use Rattle.heco_syntax.specs.declared.lexeme.Lexeme.{Lexeme}
+use Rattle.heco_syntax.specs.declared.tree.Def.{Def}
 use Rattle.heco_syntax.specs.declared.tree.Expr.{Expr}
 use Rattle.heco_syntax.specs.declared.tree.Ident.{Ident}
 use Rattle.heco_syntax.specs.declared.tree.Num.{Num}
@@ -43,6 +44,17 @@ kept_loop : (at : Place) (name : Ident) (low high : Expr) (body : List Stmt) →
 kept_loop at name low high body = ap kept_stmt (sym (s.rolls-Loop at name low high body)) ∙ fold-roll-Stmt (List Kept) kept_stmt_step (Stmt-F.Loop at name low high body)
     ∙ ap (λ v. kept_place at ++ (kept_ident name ++ (kept_expr low ++ (kept_expr high ++ v)))) (flat_map-map (λ p. p) kept_stmt body)
 
+-- what is kept of the second block of a choice, where there is one
+abbrev kept_other : Option (List Stmt) → List Kept
+kept_other other = kept_some (flat_map kept_stmt) other
+
+kept_choice : (at : Place) (test : Expr) (body : List Stmt) (other : Option (List Stmt)) → kept_stmt (s.Choice at test body other) ≡ kept_place at ++ (kept_expr test ++ (flat_map kept_stmt body ++ kept_other other))
+kept_choice at test body None = ap kept_stmt (sym (s.rolls-Choice at test body None)) ∙ fold-roll-Stmt (List Kept) kept_stmt_step (Stmt-F.Choice at test body None)
+    ∙ ap (λ v. kept_place at ++ (kept_expr test ++ (v ++ []))) (flat_map-map (λ p. p) kept_stmt body)
+kept_choice at test body (Some other) = ap kept_stmt (sym (s.rolls-Choice at test body (Some other))) ∙ fold-roll-Stmt (List Kept) kept_stmt_step (Stmt-F.Choice at test body (Some other))
+    ∙ ap (λ v. kept_place at ++ (kept_expr test ++ (v ++ flat_map (λ p. p) (map kept_stmt other)))) (flat_map-map (λ p. p) kept_stmt body)
+    ∙ ap (λ v. kept_place at ++ (kept_expr test ++ (flat_map kept_stmt body ++ v))) (flat_map-map (λ p. p) kept_stmt other)
+
 expression_leaves : (n : ℕ) → Leaves (g.expression n) kept_expr
 expression_leaves n = leaves (λ ts x i. sum_picked i)
 
@@ -61,6 +73,7 @@ abbrev kept_first : First → List Kept
 kept_first (first.Int at) = kept_place at
 kept_first (first.Secret at) = kept_place at
 kept_first (first.For at) = kept_place at
+kept_first (first.If at) = kept_place at
 kept_first (first.Name name) = kept_ident name
 
 module _ (n : ℕ) where
@@ -118,6 +131,14 @@ module _ (n : ℕ) where
         then_carries (adds ((kept_place at ++ kept_ident name) ++ (kept_expr b.0 ++ kept_expr b.1)) block_leaves) (λ body. yields_carries (s.Loop at name b.0 b.1 body)
         (ap (λ v. kept_place at ++ (kept_ident name ++ v)) (append_assoc (kept_expr b.0) (kept_expr b.1) (flat_map kept_stmt body)) ∙ sym (kept_loop at name b.0 b.1 body))))))
 
+    other_leaves : Leaves (λ ts x. g.otherwise n block ts x ⊎ g.no_otherwise n block ts x) kept_other
+    other_leaves = or_carries (then_carries (one_passed place_of k.Else) (λ c. then_carries block_leaves (λ other. yields_carries (Some other) refl))) (yields_carries None refl)
+
+    choice_carries : (at : Place) → Carries (kept_place at) (g.choice n block at) kept_stmt
+    choice_carries at = then_carries (adds (kept_place at) (expression_leaves n)) (λ test. then_carries (adds (kept_place at ++ kept_expr test) block_leaves) (λ body.
+        then_carries (adds ((kept_place at ++ kept_expr test) ++ flat_map kept_stmt body) other_leaves) (λ other. yields_carries (s.Choice at test body other)
+        (ap (λ v. kept_place at ++ v) (append_assoc (kept_expr test) (flat_map kept_stmt body) (kept_other other)) ∙ sym (kept_choice at test body other)))))
+
     first_leaves : Leaves (g.known first_of) kept_first
     first_leaves = known_leaves first_of kept_first (λ t x h. by t t.kind x refl h)
       where
@@ -125,6 +146,7 @@ module _ (n : ℕ) where
         by t k.Int x e h = subst (λ v. Picks (t ∷ []) (kept_first v)) (let p : first.Int t.at ≡ x = cc in p) (pick (place_kept t) ended)
         by t k.Secret x e h = subst (λ v. Picks (t ∷ []) (kept_first v)) (let p : first.Secret t.at ≡ x = cc in p) (pick (place_kept t) ended)
         by t k.For x e h = subst (λ v. Picks (t ∷ []) (kept_first v)) (let p : first.For t.at ≡ x = cc in p) (pick (place_kept t) ended)
+        by t k.If x e h = subst (λ v. Picks (t ∷ []) (kept_first v)) (let p : first.If t.at ≡ x = cc in p) (pick (place_kept t) ended)
         by t k.Word x e h = subst (λ v. Picks (t ∷ []) (kept_first v)) (let p : first.Name (ident_of t) ≡ x = cc in p) (pick (word_kept t e) ended)
         by t a x e h = cc
 
@@ -132,6 +154,7 @@ module _ (n : ℕ) where
     rest_carries (first.Int at) = int_carries at
     rest_carries (first.Secret at) = secret_carries at
     rest_carries (first.For at) = loop_carries at
+    rest_carries (first.If at) = choice_carries at
     rest_carries (first.Name name) = assignment_carries name
 
     statement_leaves : Leaves (g.statement n block) kept_stmt
@@ -152,9 +175,26 @@ param_leaves = then_carries (known_passed direction) (λ out. then_carries word_
     given : Leaves g.length_given (kept_some kept_num)
     given = then_carries length_leaves (λ len. yields_carries (Some len) refl)
 
-head_leaves : Leaves g.head (λ names. kept_ident names.0 ++ kept_ident names.1)
-head_leaves = then_carries (one_passed place_of k.Params) (λ p. then_carries word_leaves (λ preset. then_carries (one_passed place_of k.Semi) (λ c. then_carries (one_passed place_of k.Fn) (λ f.
-    then_carries (adds (kept_ident preset) word_leaves) (λ name. yields_carries (preset, name) refl)))))
+preset_leaves : Leaves g.preset_line kept_ident
+preset_leaves = then_carries (one_passed place_of k.Params) (λ p. then_carries word_leaves (λ preset. then_carries (one_passed place_of k.Semi) (λ c. yields_carries preset refl)))
+
+params_leaves : Leaves g.params (flat_map kept_ident)
+params_leaves = then_carries (one_passed place_of k.Open) (λ o. then_carries (or_carries (yields_carries [] refl) some) (λ xs. then_carries (one_passed place_of k.Close) (λ c. yields_carries xs refl)))
+  where
+    some : Leaves g.some_words (flat_map kept_ident)
+    some = then_carries word_leaves (λ x. then_carries (adds (kept_ident x) (many_leaves (comma_leaves word_leaves))) (λ xs. yields_carries (x ∷ xs) refl))
+
+def_sign_leaves : Leaves (g.known def_sign) kept_place
+def_sign_leaves = known_leaves def_sign kept_place (λ t x h. by t t.kind x h)
+  where
+    by : (t : Lexeme) (a : TokenKind) (x : Place) → def_sign_by t.at a ≡ Some x → Picks (t ∷ []) (kept_place x)
+    by t k.Def x h = subst (λ (v : Place). Picks (t ∷ []) (kept_place v)) (let p : t.at ≡ x = cc in p) (pick (place_kept t) ended)
+    by t a x h = cc
+
+definition_leaves : (n : ℕ) → Leaves (g.definition n) kept_def
+definition_leaves n = then_carries def_sign_leaves (λ at. then_carries (adds (kept_place at) word_leaves) (λ name. then_carries (adds (kept_place at ++ kept_ident name) params_leaves) (λ xs.
+    then_carries (one_passed place_of k.Assign) (λ a. then_carries (adds ((kept_place at ++ kept_ident name) ++ flat_map kept_ident xs) (value_leaves n)) (λ x.
+    yields_carries (record { at = at; name = name; params = xs; value = x }) refl)))))
 
 signature_leaves : Leaves g.signature (flat_map kept_param)
 signature_leaves = then_carries (one_passed place_of k.Open) (λ o. then_carries (or_carries (yields_carries [] refl) some) (λ ps. then_carries (one_passed place_of k.Close) (λ c. yields_carries ps refl)))
@@ -163,8 +203,13 @@ signature_leaves = then_carries (one_passed place_of k.Open) (λ o. then_carries
     some = then_carries param_leaves (λ p. then_carries (adds (kept_param p) (many_leaves (comma_leaves param_leaves))) (λ ps. yields_carries (p ∷ ps) refl))
 
 source_leaves : (n d : ℕ) → Leaves (IsSource n d) kept_source
-source_leaves n d = then_carries head_leaves (λ names. then_carries (adds (kept_ident names.0 ++ kept_ident names.1) signature_leaves) (λ ps.
-    then_carries (adds ((kept_ident names.0 ++ kept_ident names.1) ++ flat_map kept_param ps) (block_leaves n d)) (λ xs. yields_carries (record { params = names.0; name = names.1; ports = ps; body = xs }) refl)))
+source_leaves n d = then_carries preset_leaves (λ preset. then_carries (adds (kept_ident preset) (many_leaves (definition_leaves n))) (λ defs. then_carries (one_passed place_of k.Fn) (λ f.
+    then_carries (adds (kept_ident preset ++ flat_map kept_def defs) word_leaves) (λ name. then_carries (adds ((kept_ident preset ++ flat_map kept_def defs) ++ kept_ident name) signature_leaves) (λ ps.
+    then_carries (adds (((kept_ident preset ++ flat_map kept_def defs) ++ kept_ident name) ++ flat_map kept_param ps) (block_leaves n d)) (λ xs.
+    yields_carries (record { params = preset; defs = defs; name = name; ports = ps; body = xs })
+    (ap (λ v. kept_ident preset ++ v) (
+    ap (λ v. v ++ flat_map kept_stmt xs) (append_assoc (flat_map kept_def defs) (kept_ident name) (flat_map kept_param ps))
+    ∙ append_assoc (flat_map kept_def defs) (kept_ident name ++ flat_map kept_param ps) (flat_map kept_stmt xs)))))))))
 
 pub source_picked : (n d : ℕ) (ts : List Lexeme) (x : Source) → IsSource n d ts x → Picks ts (kept_source x)
 source_picked n d ts x i = picked (source_leaves n d) ts x i

@@ -16,7 +16,7 @@ use Rattle.heco_parse.specs.declared.read.ParseErr.TheVariants as e
 
 -- the most bytes that a source may have
 abbrev pub source_limit : ℕ
-source_limit = 65536
+source_limit = 1048576
 
 -- the place of the first of these tokens, or the place behind the text
 abbrev pub place_or_end : List ℕ → List Lexeme → Place

@@ -22,7 +22,7 @@ use std::alloc::Global;
 use thiserror::Error;
 
 /// The most bytes that a source may have.
-pub const SOURCE_LIMIT: usize = 65_536;
+pub const SOURCE_LIMIT: usize = 1_048_576;
 
 const LEVELS: u32 = 64;
 

@@ -12,7 +12,8 @@ params p8;fn f(){}|Tree
 params p8; fn f(in x, out y) { y = x x; }|Syntax 1:38
 params p8;~fn f(in x, out y) {~y = ((((((((((((((((((((((((((((((((((((((((((((((((((((((((((((((((x)))))))))))))))))))))))))))))))))))))))))))))))))))))))))))))))); }|Tree
 params p8;~fn f(in x, out y) {~y = (((((((((((((((((((((((((((((((((((((((((((((((((((((((((((((((((x))))))))))))))))))))))))))))))))))))))))))))))))))))))))))))))))); }|TooNested 3:69
-params p8;~fn f(in x, out y) {~y = ((((((((((((((((((((((((((((((((((((((((((((((((((((((((((((((((x(|Syntax 3:70
+params p8;~fn f(in x, out y) {~y = ((((((((((((((((((((((((((((((((((((((((((((((((((((((((((((((((x(|TooNested 3:70
+params p8;~fn f(in x, out y) {~y = ((((((((((((((((((((((((((((((((((((((((((((((((((((((((((((((((1(|Syntax 3:70
 params p8;~fn f(in x, out y) {~y = (((((((((((((((((((((((((((((((((((((((((((((((((((((((((((((((((*|TooNested 3:69
 params p8;~fn f(in x, out y) {~y = ----------------------------------------------------------------x; }|Tree
 params p8;~fn f(in x, out y) {~y = -----------------------------------------------------------------x; }|TooNested 3:69
@@ -50,8 +51,34 @@ params p8;~fn f(in x, out y) {~y = x; } }|Syntax 3:10
 params p8;~fn f(in x, out y) {~y = x;|Syntax 3:7
 params 8;|Syntax 1:8
 params if_;fn if(){}|Syntax 1:15
-params p8;~fn f(in x, out y) {~if x { } }|Syntax 3:1
-params p8;~fn f(in x, out y) {~def = 1; }|Syntax 3:1";
+params p8;~fn f(in x, out y) {~if x { } }|Tree
+params p8;~fn f(in x, out y) {~def = 1; }|Syntax 3:1
+params p8; def sq(x) = x*x; fn f(in a[8], in b[8], out s) { for i in 0..8 { s += sq(a[i]-b[i]); } }|Tree
+params p8; fn f(in a[8], out y[8]) { for i in 0..8 { if i { y[i] = a[i-1]; } else { y[i] = a[7]; } } }|Tree
+params p8; def sq(x) = x*x; fn f(in a, out s) { s = sq(); }|Tree
+params p8; def d() = 1|Syntax 1:23
+params p8; def d(x,) = 1; fn f(){}|Syntax 1:20
+params p8; def d(1) = 1; fn f(){}|Syntax 1:18
+params p8; def d() 1; fn f(){}|Syntax 1:20
+params p8; fn f(){} def d() = 1;|Syntax 1:21
+params p8;~fn f(in x, out y) {~y = f(1, x*2, g());  y = f (1); }|Tree
+params p8;~fn f(in x, out y) {~y = f(1,); }|Syntax 3:9
+params p8;~fn f(in x, out y) {~y = f(; }|Syntax 3:7
+params p8;~fn f(in x, out y) {~y = f(1 2); }|Syntax 3:9
+params p8;~fn f(in x, out y) {~y = f()(1); }|Syntax 3:8
+params p8;~fn f(in x, out y) {~y = f()[1]; }|Syntax 3:8
+params p8;~fn f(in x, out y) {~y = (((((((((((((((((((((((((((((((((((((((((((((((((((((((((((((((f()))))))))))))))))))))))))))))))))))))))))))))))))))))))))))))))); }|Tree
+params p8;~fn f(in x, out y) {~y = ((((((((((((((((((((((((((((((((((((((((((((((((((((((((((((((((f())))))))))))))))))))))))))))))))))))))))))))))))))))))))))))))))); }|TooNested 3:70
+params p8;~fn f(in x, out y) {~y = f((((((((((((((((((((((((((((((((((((((((((((((((((((((((((((((((x)))))))))))))))))))))))))))))))))))))))))))))))))))))))))))))))); }|Tree
+params p8;~fn f(in x, out y) {~y = f(((((((((((((((((((((((((((((((((((((((((((((((((((((((((((((((((x))))))))))))))))))))))))))))))))))))))))))))))))))))))))))))))))); }|TooNested 3:70
+params p8;~fn f(in x, out y) {~else { } }|Syntax 3:1
+params p8;~fn f(in x, out y) {~if 1 {} else if 1 {} }|Syntax 3:14
+params p8;~fn f(in x, out y) {~if 1 {} else {} else {} }|Syntax 3:17
+params p8;~fn f(in x, out y) {~if { } }|Syntax 3:4
+params p8;~fn f(in x, out y) {~if 1 y = x; }|Syntax 3:6
+params p8;~fn f(in x, out y) {~if 1 { y = x; } else y = 1; }|Syntax 3:22
+params p8;~fn f(in x, out y) {~if 1 {} else { if 1 {} else { if 1 {} else { if 1 {} else { if 1 {} else { if 1 {} else { if 1 {} else { y = x; } } } } } } } }|Tree
+params p8;~fn f(in x, out y) {~if 1 {} else { if 1 {} else { if 1 {} else { if 1 {} else { if 1 {} else { if 1 {} else { if 1 {} else { if 1 { } } } } } } } } }|TooNested 3:111";
 
 fn refusal(alloc: Global, e: ParseErr) -> Result<String, Fail> {
     match e {
@@ -89,7 +116,8 @@ fn spaces(alloc: Global, count: usize) -> Result<String, Fail> {
 
 #[test]
 fn the_longest_source(rt: HostRuntime) -> Result<(), Fail> {
-    assert_eq!(rt; spaces(rt.alloc(), 65_537)?.as_str(), "SourceLong");
-    assert_eq!(rt; spaces(rt.alloc(), 65_536)?.as_str(), "Syntax 1:65537");
+    assert_eq!(rt; spaces(rt.alloc(), 1_048_577)?.as_str(), "SourceLong");
+    assert_eq!(rt; spaces(rt.alloc(), 1_048_576)?.as_str(), "Syntax 1:1048577");
+    assert_eq!(rt; spaces(rt.alloc(), 65_537)?.as_str(), "Syntax 1:65538");
     Ok(())
 }

@@ -30,9 +30,17 @@ word_of id = record { kind = k.Word; text = id.text; value = 0; at = id.at }
 abbrev pub digits_of : Num → Lexeme
 digits_of n = record { kind = k.Number; text = []; value = n.value; at = n.at }
 
+-- commas between
+abbrev pub separated : {A : Type 0} → (A → List Lexeme) → List A → List Lexeme
+separated f [] = []
+separated f (x ∷ xs) = f x ++ flat_map (λ y. mark k.Comma ∷ f y) xs
+
+abbrev pub parens : List Lexeme → List Lexeme
+parens ts = mark k.Open ∷ (ts ++ mark k.Close ∷ [])
+
 -- in parentheses where it binds more loosely than the rank
 abbrev pub wrapped : ℕ → Spelled → List Lexeme
-wrapped rank s = if nat_lt rank s.rank then mark k.Open ∷ (s.tokens ++ mark k.Close ∷ []) else s.tokens
+wrapped rank s = if nat_lt rank s.rank then parens s.tokens else s.tokens
 
 abbrev pub spell_step : Expr-F Spelled (List Lexeme) (List Lexeme) → Spelled
 spell_step (Expr-F.Lit n) = record { rank = 0; tokens = digits_of n ∷ [] }
@@ -41,6 +49,7 @@ spell_step (Expr-F.Item id index) = record { rank = 0; tokens = word_of id ∷ m
 spell_step (Expr-F.Neg at of) = record { rank = 0; tokens = mark_at k.Minus at ∷ wrapped 0 of }
 spell_step (Expr-F.Sum first rest) = record { rank = 2; tokens = wrapped 1 first ++ flat_map (λ ts. ts) rest }
 spell_step (Expr-F.Prod first rest) = record { rank = 1; tokens = wrapped 0 first ++ flat_map (λ ts. ts) rest }
+spell_step (Expr-F.Call id args) = record { rank = 0; tokens = word_of id ∷ parens (separated (λ a. a.tokens) args) }
 
 abbrev pub sum_part_step : SumPart-F Spelled (List Lexeme) (List Lexeme) → List Lexeme
 sum_part_step p = mark_at (if p.minus then k.Minus else k.Plus) p.at ∷ wrapped 1 p.of
@@ -56,3 +65,6 @@ spelled_sum_part p = fold-SumPart Spelled (List Lexeme) (List Lexeme) spell_step
 
 abbrev pub spelled_product_part : ProdPart → List Lexeme
 spelled_product_part p = fold-ProdPart Spelled (List Lexeme) (List Lexeme) spell_step product_part_step sum_part_step p
+
+abbrev pub expression : Expr → List Lexeme
+expression x = (spelled x).tokens

@@ -1,5 +1,6 @@
 ghost use Rattle.std.specs.Prelude.{◌≡◌, ◌++◌, ◌∷◌, [], OnOk};
 ghost use Rattle.std.specs.List.{flat_map};
+ghost use Rattle.heco_lex.specs.declared.token.TokenKind.TheVariants as k;
 ghost use Rattle.heco_print.specs.Spelling as spec;
 
 use crate::mark::{put, put_at, put_number, put_word};
@@ -43,6 +44,10 @@ pub fn spell(alloc: Global, x: &Expr, out: &mut List<Lexeme>) -> Result<(), Memo
         Expr::Prod { first, rest } => {
             spell_within(alloc, 0, first.get(), out)?;
             spell_product_parts(alloc, rest.as_slice(), out)
+        }
+        Expr::Call { name, args } => {
+            put_word(alloc, name, out)?;
+            spell_arguments(alloc, args.as_slice(), out)
         }
     }
 }
@@ -89,4 +94,40 @@ fn spell_product_parts(
         spell_within(alloc, 0, &part.of, out)?;
     }
     Ok(())
+}
+
+#[cycle(spelling)]
+fn spell_more_values(alloc: Global, values: &[Expr], out: &mut List<Lexeme>) -> Result<(), Memory>
+    ensures { OnOk result (out.new ≡ out.old ++ flat_map (λ x. spec.mark k.Comma ∷ spec.expression x) values.now) }
+{
+    for value in values {
+        put(alloc, TokenKind::Comma, out)?;
+        spell(alloc, value, out)?;
+    }
+    Ok(())
+}
+
+/// Expressions with commas between.
+#[cycle(spelling)]
+#[tactic(auto, using(crate::proofs::Prints::rest_no_deeper))]
+pub fn spell_values(alloc: Global, values: &[Expr], out: &mut List<Lexeme>) -> Result<(), Memory>
+    ensures { OnOk result (out.new ≡ out.old ++ spec.separated spec.expression values.now) }
+{
+    match values.split_first() {
+        Some((first, rest)) => {
+            spell(alloc, first, out)?;
+            spell_more_values(alloc, rest, out)
+        }
+        None => Ok(()),
+    }
+}
+
+// "(" [ expr { "," expr } ] ")"
+#[cycle(spelling)]
+fn spell_arguments(alloc: Global, args: &[Expr], out: &mut List<Lexeme>) -> Result<(), Memory>
+    ensures { OnOk result (out.new ≡ out.old ++ spec.parens (spec.separated spec.expression args.now)) }
+{
+    put(alloc, TokenKind::Open, out)?;
+    spell_values(alloc, args, out)?;
+    put(alloc, TokenKind::Close, out)
 }

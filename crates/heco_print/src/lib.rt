@@ -1,6 +1,7 @@
 //! The text of a tree: its tokens with one space between, and parentheses only where the tree needs them.
 #![tactic(auto)]
 
+mod definition;
 mod expression;
 mod line;
 mod mark;

@@ -2,9 +2,10 @@ ghost use Rattle.std.specs.Prelude.{◌≡◌, ◌++◌, ◌∷◌, [], OnOk, If
 ghost use Rattle.std.specs.List.{flat_map};
 ghost use Rattle.heco_lex.specs.declared.token.TokenKind.TheVariants as k;
 ghost use Rattle.heco_print.specs.Lines.{printed};
-ghost use Rattle.heco_print.specs.Spelling.{mark};
+ghost use Rattle.heco_print.specs.Spelling.{mark, separated};
 ghost use Rattle.heco_print.specs.Statements as spec;
 
+use crate::definition::spell_definitions;
 use crate::line::line;
 use crate::mark::{put, put_word};
 use crate::statement::{spell_block, spell_brackets};
@@ -46,7 +47,7 @@ fn spell_more_params(alloc: Global, ports: &[Param], out: &mut List<Lexeme>) -> 
 }
 
 fn spell_params(alloc: Global, ports: &[Param], out: &mut List<Lexeme>) -> Result<(), Memory>
-    ensures { OnOk result (out.new ≡ out.old ++ spec.separated spec.param ports.now) }
+    ensures { OnOk result (out.new ≡ out.old ++ separated spec.param ports.now) }
 {
     match ports.split_first() {
         Some((first, rest)) => {
@@ -57,17 +58,19 @@ fn spell_params(alloc: Global, ports: &[Param], out: &mut List<Lexeme>) -> Resul
     }
 }
 
-fn spell_head(
-    alloc: Global,
-    params: &Ident,
-    name: &Ident,
-    out: &mut List<Lexeme>,
-) -> Result<(), Memory>
-    ensures { OnOk result (out.new ≡ out.old ++ spec.head params.now name.now) }
+// "params" Word ";"
+fn spell_preset_line(alloc: Global, params: &Ident, out: &mut List<Lexeme>) -> Result<(), Memory>
+    ensures { OnOk result (out.new ≡ out.old ++ spec.preset_line params.now) }
 {
     put(alloc, TokenKind::Params, out)?;
     put_word(alloc, params, out)?;
-    put(alloc, TokenKind::Semi, out)?;
+    put(alloc, TokenKind::Semi, out)
+}
+
+// "fn" Word "("
+fn spell_name_line(alloc: Global, name: &Ident, out: &mut List<Lexeme>) -> Result<(), Memory>
+    ensures { OnOk result (out.new ≡ out.old ++ spec.name_line name.now) }
+{
     put(alloc, TokenKind::Fn, out)?;
     put_word(alloc, name, out)?;
     put(alloc, TokenKind::Open, out)
@@ -76,7 +79,9 @@ fn spell_head(
 fn spell_source(alloc: Global, s: &Source, out: &mut List<Lexeme>) -> Result<(), Memory>
     ensures { OnOk result (out.new ≡ out.old ++ spec.spelled_source s.now) }
 {
-    spell_head(alloc, &s.params, &s.name, out)?;
+    spell_preset_line(alloc, &s.params, out)?;
+    spell_definitions(alloc, s.defs.as_slice(), out)?;
+    spell_name_line(alloc, &s.name, out)?;
     spell_params(alloc, s.ports.as_slice(), out)?;
     put(alloc, TokenKind::Close, out)?;
     spell_block(alloc, s.body.as_slice(), out)

@@ -1,10 +1,10 @@
 ghost use Rattle.std.specs.Prelude.{◌≡◌, ◌++◌, ◌∷◌, [], OnOk};
 ghost use Rattle.std.specs.List.{flat_map};
-ghost use Rattle.heco_print.specs.Spelling.{mark};
 ghost use Rattle.heco_lex.specs.declared.token.TokenKind.TheVariants as k;
+ghost use Rattle.heco_print.specs.Spelling.{expression, mark, separated};
 ghost use Rattle.heco_print.specs.Statements as spec;
 
-use crate::expression::spell;
+use crate::expression::{spell, spell_values};
 use crate::mark::{put, put_at, put_number, put_word};
 use heco_lex::{Place, TokenKind};
 use heco_nums::{List, Memory};
@@ -20,31 +20,9 @@ pub fn spell_brackets(alloc: Global, len: Num, out: &mut List<Lexeme>) -> Result
     put(alloc, TokenKind::CloseBracket, out)
 }
 
-fn spell_more_values(alloc: Global, values: &[Expr], out: &mut List<Lexeme>) -> Result<(), Memory>
-    ensures { OnOk result (out.new ≡ out.old ++ flat_map (λ x. mark k.Comma ∷ spec.expression x) values.now) }
-{
-    for value in values {
-        put(alloc, TokenKind::Comma, out)?;
-        spell(alloc, value, out)?;
-    }
-    Ok(())
-}
-
-fn spell_values(alloc: Global, values: &[Expr], out: &mut List<Lexeme>) -> Result<(), Memory>
-    ensures { OnOk result (out.new ≡ out.old ++ spec.separated spec.expression values.now) }
-{
-    match values.split_first() {
-        Some((first, rest)) => {
-            spell(alloc, first, out)?;
-            spell_more_values(alloc, rest, out)
-        }
-        None => Ok(()),
-    }
-}
-
 // expr ";"
-fn spell_value(alloc: Global, value: &Expr, out: &mut List<Lexeme>) -> Result<(), Memory>
-    ensures { OnOk result (out.new ≡ out.old ++ (spec.expression value.now ++ mark k.Semi ∷ [])) }
+pub fn spell_value(alloc: Global, value: &Expr, out: &mut List<Lexeme>) -> Result<(), Memory>
+    ensures { OnOk result (out.new ≡ out.old ++ (expression value.now ++ mark k.Semi ∷ [])) }
 {
     spell(alloc, value, out)?;
     put(alloc, TokenKind::Semi, out)
@@ -67,7 +45,7 @@ fn spell_int_one(
 
 // "{" expr { "," expr } "}"
 fn spell_braced_values(alloc: Global, values: &[Expr], out: &mut List<Lexeme>) -> Result<(), Memory>
-    ensures { OnOk result (out.new ≡ out.old ++ spec.braces (spec.separated spec.expression values.now)) }
+    ensures { OnOk result (out.new ≡ out.old ++ spec.braces (separated expression values.now)) }
 {
     put(alloc, TokenKind::OpenBrace, out)?;
     spell_values(alloc, values, out)?;
@@ -193,6 +171,19 @@ fn spell_loop_head(
     spell(alloc, high, out)
 }
 
+// "if" expr
+fn spell_choice_head(
+    alloc: Global,
+    at: Place,
+    test: &Expr,
+    out: &mut List<Lexeme>,
+) -> Result<(), Memory>
+    ensures { OnOk result (out.new ≡ out.old ++ spec.choice_head at test.now) }
+{
+    put_at(alloc, TokenKind::If, at, out)?;
+    spell(alloc, test, out)
+}
+
 #[cycle(blocks)]
 fn spell_statement(alloc: Global, x: &Stmt, out: &mut List<Lexeme>) -> Result<(), Memory>
     ensures { OnOk result (out.new ≡ out.old ++ spec.spelled_stmt x.now) }
@@ -224,6 +215,16 @@ fn spell_statement(alloc: Global, x: &Stmt, out: &mut List<Lexeme>) -> Result<()
             spell_loop_head(alloc, *at, name, low, high, out)?;
             spell_block(alloc, body.as_slice(), out)
         }
+        Stmt::Choice { at, cond, yes, no } => {
+            spell_choice_head(alloc, *at, cond, out)?;
+            match no {
+                None => spell_block(alloc, yes.as_slice(), out),
+                Some(no) => {
+                    spell_block(alloc, yes.as_slice(), out)?;
+                    spell_otherwise(alloc, no.as_slice(), out)
+                }
+            }
+        }
     }
 }
 
@@ -235,6 +236,15 @@ fn spell_statements(alloc: Global, body: &[Stmt], out: &mut List<Lexeme>) -> Res
         spell_statement(alloc, x, out)?;
     }
     Ok(())
+}
+
+// "else" block
+#[cycle(blocks)]
+fn spell_otherwise(alloc: Global, body: &[Stmt], out: &mut List<Lexeme>) -> Result<(), Memory>
+    ensures { OnOk result (out.new ≡ out.old ++ mark k.Else ∷ spec.block body.now) }
+{
+    put(alloc, TokenKind::Else, out)?;
+    spell_block(alloc, body, out)
 }
 
 /// The tokens of a block.

@@ -11,9 +11,9 @@ use Rattle.heco_syntax.specs.declared.tree.Expr.TheVariants as e
 use Rattle.heco_syntax.specs.declared.tree.SumPart.{SumPart, fold-roll-SumPart}
 use Rattle.heco_syntax.specs.declared.tree.ProdPart.{ProdPart, fold-roll-ProdPart}
 use Rattle.heco_syntax.specs.declared.tree.Expr.TheOpen.{Expr-F}
-use Rattle.heco_syntax.specs.Parts.{sum_of, product_of, sum_part, product_part, sum_sign_of, with_place, product_sign_by, num_of, ident_of}
+use Rattle.heco_syntax.specs.Parts.{sum_of, product_of, sum_part, product_part, comma_by, sum_sign_of, with_place, product_sign_by, num_of, ident_of}
 use Rattle.heco_syntax.specs.Erasure.{IsLike, Alike, alike_nil, alike, nowhere, bare, bare_ident, bare_num, bare_sum_part, bare_product_part, bare_step, bare_product_step, bare_sum_step}
-use Rattle.heco_syntax.specs.Grammar.{IsFactor, IsProduct, AreFactors, IsSum, AreProducts, literal, name, item, negative, group, product, no_factor, factors, sum, no_product, products}
+use Rattle.heco_syntax.specs.Grammar.{IsFactor, AreArguments, AreFurther, IsProduct, AreFactors, IsSum, AreProducts, literal, name, item, negative, group, call, no_argument, arguments, no_further, further, product, no_factor, factors, sum, no_product, products}
 
 bare_lit : (n : Num) → bare (e.Lit n) ≡ e.Lit (bare_num n)
 bare_lit n = ap bare (sym (e.rolls-Lit n)) ∙ fold-roll-Expr Expr ProdPart SumPart bare_step bare_product_step bare_sum_step (Expr-F.Lit n)
@@ -23,6 +23,9 @@ bare_one id = ap bare (sym (e.rolls-One id)) ∙ fold-roll-Expr Expr ProdPart Su
 
 bare_item : (id : Ident) (x : Expr) → bare (e.Item id x) ≡ e.Item (bare_ident id) (bare x)
 bare_item id x = ap bare (sym (e.rolls-Item id x)) ∙ fold-roll-Expr Expr ProdPart SumPart bare_step bare_product_step bare_sum_step (Expr-F.Item id x)
+
+bare_call : (id : Ident) (xs : List Expr) → bare (e.Call id xs) ≡ e.Call (bare_ident id) (map bare xs)
+bare_call id xs = ap bare (sym (e.rolls-Call id xs)) ∙ fold-roll-Expr Expr ProdPart SumPart bare_step bare_product_step bare_sum_step (Expr-F.Call id xs)
 
 bare_neg : (at : Place) (x : Expr) → bare (e.Neg at x) ≡ e.Neg nowhere (bare x)
 bare_neg at x = ap bare (sym (e.rolls-Neg at x)) ∙ fold-roll-Expr Expr ProdPart SumPart bare_step bare_product_step bare_sum_step (Expr-F.Neg at x)
@@ -86,6 +89,10 @@ star_like : (a : TokenKind) (at at2 : Place) → product_sign_by at a ≡ Some a
 star_like k.Star at at2 h place = refl
 star_like a at at2 h place = cc
 
+comma_like : (a : TokenKind) (at at2 : Place) → comma_by at a ≡ Some at2 → (place : Place) → comma_by place a ≡ Some place
+comma_like k.Comma at at2 h place = refl
+comma_like a at at2 h place = cc
+
 sign_like : (a : TokenKind) (at : Place) (s : Bool × Place) → with_place at (sum_sign_of a) ≡ Some s → (place : Place) → with_place place (sum_sign_of a) ≡ Some (s.0, place)
 sign_like a at s h place = by (sum_sign_of a) h
   where
@@ -126,6 +133,39 @@ mutual
       let o = one c p.back p.second in
       let l = lift_sum i p.front p.first in
       record { y = l.y; is = subst (λ v. IsFactor (suc n) (o2 ∷ v) l.y) (sym (p.all ∙ ap (λ v. p.front ++ v) o.all)) (group o.u (ho2.kind ∙ ho) l.is (o.like.kind ∙ hc)); same = l.same }
+  lift_factor (call {n = n} {w = w} c {ts = ts} {x = x} {args = xs} h ho inner hc is) us (alike {u = w2} hw (alike {u = o2} {us = rest} ho2 a)) =
+      let p = cut ts (c ∷ []) rest a in
+      let o = one c p.back p.second in
+      let l = lift_arguments inner p.front p.first in
+      record {
+        y = e.Call (ident_of w2) l.qs;
+        is = subst (λ v. IsFactor (suc n) (w2 ∷ o2 ∷ v) (e.Call (ident_of w2) l.qs)) (sym (p.all ∙ ap (λ v. p.front ++ v) o.all)) (call o.u (hw.kind ∙ h) (ho2.kind ∙ ho) l.are (o.like.kind ∙ hc) refl);
+        same = bare_call (ident_of w2) l.qs ∙ ap (λ v. e.Call v (map bare l.qs)) (ident_like w w2 hw) ∙ ap (λ v. e.Call (bare_ident (ident_of w)) v) l.same ∙ sym (bare_call (ident_of w) xs) ∙ ap bare (sym is);
+      }
+
+  pub lift_arguments : {n : ℕ} {ts : List Lexeme} {xs : List Expr} → AreArguments n ts xs → (us : List Lexeme) → Alike ts us → LiftedAll AreArguments bare n us xs
+  lift_arguments no_argument us alike_nil = record { qs = []; are = no_argument; same = refl }
+  lift_arguments {n} (arguments {ts = ts} {us = vs} {x = x} {xs = xs} i a) us h =
+      let p = cut ts vs us h in
+      let l = lift_sum i p.front p.first in
+      let r = lift_further a p.back p.second in
+      record {
+        qs = l.y ∷ r.qs;
+        are = subst (λ v. AreArguments n v (l.y ∷ r.qs)) (sym p.all) (arguments l.is r.are);
+        same = ap (λ v. v ∷ map bare r.qs) l.same ∙ ap (λ v. bare x ∷ v) r.same;
+      }
+
+  pub lift_further : {n : ℕ} {ts : List Lexeme} {xs : List Expr} → AreFurther n ts xs → (us : List Lexeme) → Alike ts us → LiftedAll AreFurther bare n us xs
+  lift_further no_further us alike_nil = record { qs = []; are = no_further; same = refl }
+  lift_further {n} (further {t = t} {at = at} {ts = ts} {us = vs} {x = x} {xs = xs} s i a) us (alike {u = u} {us = rest} ht h) =
+      let p = cut ts vs rest h in
+      let l = lift_sum i p.front p.first in
+      let r = lift_further a p.back p.second in
+      record {
+        qs = l.y ∷ r.qs;
+        are = subst (λ v. AreFurther n (u ∷ v) (l.y ∷ r.qs)) (sym p.all) (further {t = u} (ap (comma_by u.at) ht.kind ∙ comma_like t.kind t.at at s u.at) l.is r.are);
+        same = ap (λ v. v ∷ map bare r.qs) l.same ∙ ap (λ v. bare x ∷ v) r.same;
+      }
 
   pub lift_product : {n : ℕ} {ts : List Lexeme} {x : Expr} → IsProduct n ts x → (us : List Lexeme) → Alike ts us → Lifted IsProduct n us x
   lift_product {n} (product {ts = ts} {us = vs} {x = x} {first = first} {ps = ps} i a is) us h =

@@ -3,14 +3,15 @@ use Rattle.std.proofs.Common.{◌≡◌, ◌∙◌, sym, ap, subst, refl, ℕ, z
 use Rattle.heco_lex.specs.declared.place.Place.{Place}
 use Rattle.heco_lex.specs.declared.token.TokenKind.{TokenKind}
 use Rattle.heco_lex.specs.declared.token.TokenKind.TheVariants as k
-use Rattle.heco_syntax.specs.Erasure.{IsLike, Alike, alike_nil, nowhere, bare, bare_ident, bare_num, bare_some, bare_stmt_step, bare_stmt, bare_param, bare_source}
-use Rattle.heco_syntax.specs.Parts.{place_of, ident_of, num_of, with_place, comma, comma_by, set_op, set_op_of, direction, direction_of, first_of, first_by}
+use Rattle.heco_syntax.specs.Erasure.{IsLike, Alike, alike_nil, nowhere, bare, bare_ident, bare_num, bare_some, bare_stmt_step, bare_stmt, bare_param, bare_def, bare_source}
+use Rattle.heco_syntax.specs.Parts.{place_of, ident_of, num_of, with_place, comma, comma_by, def_sign, def_sign_by, set_op, set_op_of, direction, direction_of, first_of, first_by}
 use Rattle.heco_syntax.specs.Productions.{Spells, IsOne, IsKnown, IsNothing, Then, Many, none, more}
 use Rattle.heco_syntax.specs.Sources.{IsSource, IsBlock, block_or, no_block}
 use Rattle.heco_syntax.specs.Sources as g
 use Rattle.heco_syntax.specs.declared.first.First.{First}
 use Rattle.heco_syntax.specs.declared.first.First.TheVariants as first
 use Rattle.heco_syntax.specs.declared.lexeme.Lexeme.{Lexeme}
+use Rattle.heco_syntax.specs.declared.tree.Def.{Def}
 use Rattle.heco_syntax.specs.declared.tree.Expr.{Expr}
 use Rattle.heco_syntax.specs.declared.tree.Ident.{Ident}
 use Rattle.heco_syntax.specs.declared.tree.Num.{Num}
@@ -136,11 +137,16 @@ bare_set name i o at x = ap bare_stmt (sym (s.rolls-Set name i o at x)) ∙ fold
 bare_loop : (at : Place) (name : Ident) (low high : Expr) (body : List Stmt) → bare_stmt (s.Loop at name low high body) ≡ s.Loop nowhere (bare_ident name) (bare low) (bare high) (map bare_stmt body)
 bare_loop at name low high body = ap bare_stmt (sym (s.rolls-Loop at name low high body)) ∙ fold-roll-Stmt Stmt bare_stmt_step (Stmt-F.Loop at name low high body)
 
+bare_choice : (at : Place) (test : Expr) (body : List Stmt) (other : Option (List Stmt)) → bare_stmt (s.Choice at test body other) ≡ s.Choice nowhere (bare test) (map bare_stmt body) (bare_some (map bare_stmt) other)
+bare_choice at test body None = ap bare_stmt (sym (s.rolls-Choice at test body None)) ∙ fold-roll-Stmt Stmt bare_stmt_step (Stmt-F.Choice at test body None)
+bare_choice at test body (Some other) = ap bare_stmt (sym (s.rolls-Choice at test body (Some other))) ∙ fold-roll-Stmt Stmt bare_stmt_step (Stmt-F.Choice at test body (Some other))
+
 -- what is told of the first token of a statement
 abbrev told_first : First → First
 told_first (first.Int at) = first.Int nowhere
 told_first (first.Secret at) = first.Secret nowhere
 told_first (first.For at) = first.For nowhere
+told_first (first.If at) = first.If nowhere
 told_first (first.Name name) = first.Name (bare_ident name)
 
 first_lifts : Lifts (g.known first_of) (g.known first_of) told_first
@@ -150,6 +156,7 @@ first_lifts = known_lifts first_of told_first (λ t u x h e. by t u h t.kind ref
     by t u h k.Int e x g = (first.Int u.at, ap (first_by u) (h.kind ∙ e), (let p : first.Int t.at ≡ x = cc in ap told_first p))
     by t u h k.Secret e x g = (first.Secret u.at, ap (first_by u) (h.kind ∙ e), (let p : first.Secret t.at ≡ x = cc in ap told_first p))
     by t u h k.For e x g = (first.For u.at, ap (first_by u) (h.kind ∙ e), (let p : first.For t.at ≡ x = cc in ap told_first p))
+    by t u h k.If e x g = (first.If u.at, ap (first_by u) (h.kind ∙ e), (let p : first.If t.at ≡ x = cc in ap told_first p))
     by t u h k.Word e x g = (first.Name (ident_of u), ap (first_by u) (h.kind ∙ e), (let p : first.Name (ident_of t) ≡ x = cc in ap first.Name (ident_like t u h) ∙ ap told_first p))
     by t u h a e x g = cc
 
@@ -226,10 +233,22 @@ module _ (n : ℕ) where
         yields_lifts (s.Loop at name b.0 b.1 body) (s.Loop at2 name2 b2.0 b2.1 body2) (bare_loop at2 name2 b2.0 b2.1 body2 ∙ ap (λ v. s.Loop nowhere v (bare b2.0) (bare b2.1) (map bare_stmt body2)) e
         ∙ ap (λ (v : Expr × Expr). s.Loop nowhere (bare_ident name) v.0 v.1 (map bare_stmt body2)) j ∙ ap (s.Loop nowhere (bare_ident name) (bare b.0) (bare b.1)) l ∙ sym (bare_loop at name b.0 b.1 body))))))
 
+    abbrev bare_other : Option (List Stmt) → Option (List Stmt)
+    bare_other other = bare_some (map bare_stmt) other
+
+    other_lifts : Lifts (λ ts x. g.otherwise n block ts x ⊎ g.no_otherwise n block ts x) (λ ts x. g.otherwise n block ts x ⊎ g.no_otherwise n block ts x) bare_other
+    other_lifts = or_lifts (then_lifts (token_lifts k.Else) (λ a a2 e. then_lifts block_lifts (λ b b2 h. yields_lifts (Some b) (Some b2) (ap (λ v. Some v) h)))) (yields_lifts None None refl)
+
+    choice_lifts : (at at2 : Place) → Lifts (g.choice n block at) (g.choice n block at2) bare_stmt
+    choice_lifts at at2 = then_lifts (expression_lifts n) (λ test test2 e. then_lifts block_lifts (λ body body2 h. then_lifts other_lifts (λ other other2 j.
+        yields_lifts (s.Choice at test body other) (s.Choice at2 test2 body2 other2) (bare_choice at2 test2 body2 other2 ∙ ap (λ v. s.Choice nowhere v (map bare_stmt body2) (bare_other other2)) e
+        ∙ ap (λ v. s.Choice nowhere (bare test) v (bare_other other2)) h ∙ ap (s.Choice nowhere (bare test) (map bare_stmt body)) j ∙ sym (bare_choice at test body other)))))
+
     rest_lifts : (f f2 : First) → told_first f2 ≡ told_first f → Lifts (g.statement_from n block f) (g.statement_from n block f2) bare_stmt
     rest_lifts (first.Int at) (first.Int at2) e = int_lifts at at2
     rest_lifts (first.Secret at) (first.Secret at2) e = secret_lifts at at2
     rest_lifts (first.For at) (first.For at2) e = loop_lifts at at2
+    rest_lifts (first.If at) (first.If at2) e = choice_lifts at at2
     rest_lifts (first.Name name) (first.Name name2) e = assignment_lifts name name2 (let p : first.Name (bare_ident name2) ≡ first.Name (bare_ident name) = e in cc)
     rest_lifts f f2 e = cc
 
@@ -253,12 +272,28 @@ param_lifts = then_lifts direction_lifts (λ out out2 e. then_lifts word_lifts (
     (ap (λ (v : Bool). let p : Param = record { output = v; name = bare_ident name2; len = bare_some bare_num l2 } in p) e ∙ ap (λ (v : Ident). let p : Param = record { output = out; name = v; len = bare_some bare_num l2 } in p) h
     ∙ ap (λ (v : Option Num). let p : Param = record { output = out; name = bare_ident name; len = v } in p) i))))
 
-abbrev bare_names : Ident × Ident → Ident × Ident
-bare_names p = (bare_ident p.0, bare_ident p.1)
+preset_lifts : Lifts g.preset_line g.preset_line bare_ident
+preset_lifts = then_lifts (token_lifts k.Params) (λ p p2 e. then_lifts word_lifts (λ preset preset2 h. then_lifts (token_lifts k.Semi) (λ c c2 i. yields_lifts preset preset2 h)))
 
-head_lifts : Lifts g.head g.head bare_names
-head_lifts = then_lifts (token_lifts k.Params) (λ p p2 e. then_lifts word_lifts (λ preset preset2 h. then_lifts (token_lifts k.Semi) (λ c c2 i. then_lifts (token_lifts k.Fn) (λ f f2 j. then_lifts word_lifts (λ name name2 l.
-    yields_lifts (preset, name) (preset2, name2) (ap (λ v. (v, bare_ident name2)) h ∙ ap (λ v. (bare_ident preset, v)) l))))))
+def_sign_lifts : Lifts (g.known def_sign) (g.known def_sign) untold
+def_sign_lifts = known_lifts def_sign untold (λ t u x h e. by t.at t.kind x e u.at u.kind h.kind)
+  where
+    by : (place : Place) (a : TokenKind) (x : Place) → def_sign_by place a ≡ Some x → (at : Place) (b : TokenKind) → b ≡ a → (y : Place) × (def_sign_by at b ≡ Some y) × (untold y ≡ untold x)
+    by place k.Def x e at b h = (at, ap (def_sign_by at) h, refl)
+    by place a x e at b h = cc
+
+params_lifts : Lifts g.params g.params (map bare_ident)
+params_lifts = then_lifts (token_lifts k.Open) (λ o o2 e. then_lifts (or_lifts (yields_lifts [] [] refl) some) (λ xs xs2 h. then_lifts (token_lifts k.Close) (λ c c2 i. yields_lifts xs xs2 h)))
+  where
+    some : Lifts g.some_words g.some_words (map bare_ident)
+    some = then_lifts word_lifts (λ x x2 e. then_lifts (many_lifts (after_lifts word_lifts)) (λ xs xs2 h. yields_lifts (x ∷ xs) (x2 ∷ xs2) (ap (λ v. v ∷ map bare_ident xs2) e ∙ ap (λ v. bare_ident x ∷ v) h)))
+
+definition_lifts : (n : ℕ) → Lifts (g.definition n) (g.definition n) bare_def
+definition_lifts n = then_lifts def_sign_lifts (λ at at2 e. then_lifts word_lifts (λ name name2 h. then_lifts params_lifts (λ xs xs2 i. then_lifts (token_lifts k.Assign) (λ a a2 j. then_lifts (value_lifts n) (λ x x2 l.
+    yields_lifts (record { at = at; name = name; params = xs; value = x }) (record { at = at2; name = name2; params = xs2; value = x2 })
+    (ap (λ (v : Ident). let d : Def = record { at = nowhere; name = v; params = map bare_ident xs2; value = bare x2 } in d) h
+    ∙ ap (λ (v : List Ident). let d : Def = record { at = nowhere; name = bare_ident name; params = v; value = bare x2 } in d) i
+    ∙ ap (λ (v : Expr). let d : Def = record { at = nowhere; name = bare_ident name; params = map bare_ident xs; value = v } in d) l))))))
 
 signature_lifts : Lifts g.signature g.signature (map bare_param)
 signature_lifts = then_lifts (token_lifts k.Open) (λ o o2 e. then_lifts (or_lifts (yields_lifts [] [] refl) some) (λ ps ps2 h. then_lifts (token_lifts k.Close) (λ c c2 i. yields_lifts ps ps2 h)))
@@ -267,8 +302,11 @@ signature_lifts = then_lifts (token_lifts k.Open) (λ o o2 e. then_lifts (or_lif
     some = then_lifts param_lifts (λ p p2 e. then_lifts (many_lifts (after_lifts param_lifts)) (λ ps ps2 h. yields_lifts (p ∷ ps) (p2 ∷ ps2) (ap (λ v. v ∷ map bare_param ps2) e ∙ ap (λ v. bare_param p ∷ v) h)))
 
 pub source_lifts : (n d : ℕ) → Lifts (IsSource n d) (IsSource n d) bare_source
-source_lifts n d = then_lifts head_lifts (λ names names2 e. then_lifts signature_lifts (λ ps ps2 h. then_lifts (block_lifts n d) (λ xs xs2 i.
-    yields_lifts (record { params = names.0; name = names.1; ports = ps; body = xs }) (record { params = names2.0; name = names2.1; ports = ps2; body = xs2 })
-    (ap (λ (v : Ident × Ident). let x : Source = record { params = v.0; name = v.1; ports = map bare_param ps2; body = map bare_stmt xs2 } in x) e
-    ∙ ap (λ (v : List Param). let x : Source = record { params = bare_ident names.0; name = bare_ident names.1; ports = v; body = map bare_stmt xs2 } in x) h
-    ∙ ap (λ (v : List Stmt). let x : Source = record { params = bare_ident names.0; name = bare_ident names.1; ports = map bare_param ps; body = v } in x) i))))
+source_lifts n d = then_lifts preset_lifts (λ preset preset2 e. then_lifts (many_lifts (definition_lifts n)) (λ defs defs2 f. then_lifts (token_lifts k.Fn) (λ c c2 g. then_lifts word_lifts (λ name name2 j.
+    then_lifts signature_lifts (λ ps ps2 h. then_lifts (block_lifts n d) (λ xs xs2 i.
+    yields_lifts (record { params = preset; defs = defs; name = name; ports = ps; body = xs }) (record { params = preset2; defs = defs2; name = name2; ports = ps2; body = xs2 })
+    (ap (λ (v : Ident). let x : Source = record { params = v; defs = map bare_def defs2; name = bare_ident name2; ports = map bare_param ps2; body = map bare_stmt xs2 } in x) e
+    ∙ ap (λ (v : List Def). let x : Source = record { params = bare_ident preset; defs = v; name = bare_ident name2; ports = map bare_param ps2; body = map bare_stmt xs2 } in x) f
+    ∙ ap (λ (v : Ident). let x : Source = record { params = bare_ident preset; defs = map bare_def defs; name = v; ports = map bare_param ps2; body = map bare_stmt xs2 } in x) j
+    ∙ ap (λ (v : List Param). let x : Source = record { params = bare_ident preset; defs = map bare_def defs; name = bare_ident name; ports = v; body = map bare_stmt xs2 } in x) h
+    ∙ ap (λ (v : List Stmt). let x : Source = record { params = bare_ident preset; defs = map bare_def defs; name = bare_ident name; ports = map bare_param ps; body = v } in x) i)))))))

@@ -4,9 +4,9 @@ use Rattle.std.specs.List.{flat_map}
 use Rattle.std.specs.Prelude.{if◌then◌else◌, nat_lt}
 use Rattle.heco_lex.specs.declared.place.Place.{Place}
 use Rattle.heco_lex.specs.declared.token.TokenKind.TheVariants as k
-use Rattle.heco_print.proofs.Prints.{spelled_lit, spelled_one, spelled_item, spelled_neg, spelled_sum, spelled_prod, spelled_sums, spelled_prods}
-use Rattle.heco_print.specs.Spelling.{Spelled, spelled, spelled_sum_part, spelled_product_part, wrapped, mark, mark_at}
-use Rattle.heco_syntax.specs.Grammar.{IsFactor, IsProduct, AreFactors, IsSum, AreProducts, literal, name, item, negative, group, product, no_factor, factors, sum, no_product, products}
+use Rattle.heco_print.proofs.Prints.{spelled_lit, spelled_one, spelled_item, spelled_call, spelled_neg, spelled_sum, spelled_prod, spelled_sums, spelled_prods}
+use Rattle.heco_print.specs.Spelling.{Spelled, spelled, expression, separated, spelled_sum_part, spelled_product_part, wrapped, mark, mark_at}
+use Rattle.heco_syntax.specs.Grammar.{IsFactor, AreArguments, AreFurther, IsProduct, AreFactors, IsSum, AreProducts, literal, name, item, negative, group, call, no_argument, arguments, no_further, further, product, no_factor, factors, sum, no_product, products}
 use Rattle.heco_syntax.specs.Parts.{ident_of, num_of}
 use Rattle.heco_syntax.specs.declared.lexeme.Lexeme.{Lexeme}
 use Rattle.heco_syntax.specs.declared.tree.Expr.{Expr}
@@ -40,6 +40,19 @@ mutual
       (plain_word (ident_of w) (f.0.word h), (record { fits = refl; text = refl; value = refl }, both_each IsPlain (spelled y).tokens (mark k.CloseBracket ∷ []) (sum_plain i (front_each Fits ts (c ∷ []) f.1.1)) (record { fits = refl; text = refl; value = refl }, tt)))
   factor_plain (negative {t = t} {x = x} {y = y} h i is) f = plain_by x _ (ap spelled is ∙ spelled_neg t.at y) (record { fits = refl; text = refl; value = refl }, plain_wrapped 0 y (factor_plain i f.1))
   factor_plain (group c {ts = ts} ho i hc) f = sum_plain i (front_each Fits ts (c ∷ []) f.1)
+  factor_plain (call {w = w} c {ts = ts} {x = x} {args = xs} h ho i hc is) f =
+      plain_by x _ (ap spelled is ∙ spelled_call (ident_of w) xs)
+      (plain_word (ident_of w) (f.0.word h), (record { fits = refl; text = refl; value = refl }, both_each IsPlain (separated expression xs) (mark k.Close ∷ []) (arguments_plain i (front_each Fits ts (c ∷ []) f.1.1)) (record { fits = refl; text = refl; value = refl }, tt)))
+
+  arguments_plain : {n : ℕ} {ts : List Lexeme} {xs : List Expr} → AreArguments n ts xs → Each Fits ts → Each IsPlain (separated expression xs)
+  arguments_plain no_argument f = tt
+  arguments_plain (arguments {ts = ts} {us = us} {x = x} {xs = xs} i a) f =
+      both_each IsPlain (expression x) (flat_map (λ y. mark k.Comma ∷ expression y) xs) (sum_plain i (front_each Fits ts us f)) (further_plain a (back_each Fits ts us f))
+
+  further_plain : {n : ℕ} {ts : List Lexeme} {xs : List Expr} → AreFurther n ts xs → Each Fits ts → Each IsPlain (flat_map (λ y. mark k.Comma ∷ expression y) xs)
+  further_plain no_further f = tt
+  further_plain (further {ts = ts} {us = us} {x = x} {xs = xs} s i a) f =
+      (record { fits = refl; text = refl; value = refl }, both_each IsPlain (expression x) (flat_map (λ y. mark k.Comma ∷ expression y) xs) (sum_plain i (front_each Fits ts us f.1)) (further_plain a (back_each Fits ts us f.1)))
 
   product_plain : {n : ℕ} {ts : List Lexeme} {x : Expr} → IsProduct n ts x → Each Fits ts → Plain x
   product_plain (product {ts = ts} {us = us} i no_factor is) f = subst Plain (sym is) (factor_plain i (front_each Fits ts us f))

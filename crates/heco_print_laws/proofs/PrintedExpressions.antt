@@ -10,10 +10,10 @@ use Rattle.heco_syntax.specs.declared.tree.Expr.{Expr}
 use Rattle.heco_syntax.specs.declared.tree.SumPart.{SumPart}
 use Rattle.heco_syntax.specs.declared.tree.ProdPart.{ProdPart}
 use Rattle.heco_syntax.specs.Parts.{sum_part, product_part, sum_sign, num_of, ident_of}
-use Rattle.heco_syntax.specs.Grammar.{IsFactor, IsProduct, AreFactors, IsSum, AreProducts, literal, name, item, negative, group, product, no_factor, factors, sum, no_product, products}
-use Rattle.heco_print.specs.Spelling.{Spelled, spelled, spelled_sum_part, spelled_product_part, wrapped, mark, mark_at, word_of, digits_of}
+use Rattle.heco_syntax.specs.Grammar.{IsFactor, AreArguments, AreFurther, IsProduct, AreFactors, IsSum, AreProducts, literal, name, item, negative, group, call, no_argument, arguments, no_further, further, product, no_factor, factors, sum, no_product, products}
+use Rattle.heco_print.specs.Spelling.{Spelled, spelled, expression, separated, parens, spelled_sum_part, spelled_product_part, wrapped, mark, mark_at, word_of, digits_of}
 use Rattle.heco_expressions.proofs.Weaken.{weaken_factor, weaken_product, weaken_sum}
-use Rattle.heco_print.proofs.Prints.{spelled_lit, spelled_one, spelled_item, spelled_neg, spelled_sum, spelled_prod, spelled_sums, spelled_prods}
+use Rattle.heco_print.proofs.Prints.{spelled_lit, spelled_one, spelled_item, spelled_call, spelled_neg, spelled_sum, spelled_prod, spelled_sums, spelled_prods}
 
 one_product : (n : ℕ) (ts : List Lexeme) (x : Expr) → IsFactor n ts x → IsProduct n ts x
 one_product n ts x i = subst (λ v. IsProduct n v x) (append-nil ts) (product i no_factor refl)
@@ -79,6 +79,16 @@ mutual
   prints_factor (negative {n = n} {t = t} {x = x} {y = y} h i is) =
       atom (suc n) x (mark_at k.Minus t.at ∷ wrapped 0 (spelled y)) (ap spelled is ∙ spelled_neg t.at y) (negative refl (prints_factor i).1 is)
   prints_factor (group {n = n} c {x = x} ho i hc) = let p = prints_sum i in (deeper n x p, grouped n x p)
+  prints_factor (call {n = n} {w = w} c {x = x} {args = xs} h ho i hc is) =
+      atom (suc n) x (word_of (ident_of w) ∷ parens (separated expression xs)) (ap spelled is ∙ spelled_call (ident_of w) xs) (call (mark k.Close) refl refl (prints_arguments i) refl is)
+
+  prints_arguments : {n : ℕ} {ts : List Lexeme} {xs : List Expr} → AreArguments n ts xs → AreArguments n (separated expression xs) xs
+  prints_arguments no_argument = no_argument
+  prints_arguments (arguments i a) = arguments (prints_sum i).is_sum (prints_further a)
+
+  prints_further : {n : ℕ} {ts : List Lexeme} {xs : List Expr} → AreFurther n ts xs → AreFurther n (flat_map (λ y. mark k.Comma ∷ expression y) xs) xs
+  prints_further no_further = no_further
+  prints_further (further s i a) = further {t = mark k.Comma} refl (prints_sum i).is_sum (prints_further a)
 
   pub prints_product : {n : ℕ} {ts : List Lexeme} {x : Expr} → IsProduct n ts x → Prints n x × IsProduct n (wrapped 1 (spelled x)) x
   prints_product {n} (product {x = x} {first = first} i no_factor is) =

@@ -6,11 +6,11 @@ use Rattle.heco_lex.specs.Kinds.{kind_of}
 use Rattle.heco_lex.specs.declared.place.Place.{Place}
 use Rattle.heco_lex.specs.declared.token.TokenKind.{TokenKind}
 use Rattle.heco_lex.specs.declared.token.TokenKind.TheVariants as k
-use Rattle.heco_print.proofs.Loops.{spelled_loop}
-use Rattle.heco_print.specs.Spelling.{mark, mark_at, word_of, digits_of}
+use Rattle.heco_print.proofs.Loops.{spelled_loop, spelled_if, spelled_either}
+use Rattle.heco_print.specs.Spelling.{mark, mark_at, word_of, digits_of, separated, parens, expression}
 use Rattle.heco_print.specs.Statements.{spelled_source, spelled_stmt, stmt_step}
 use Rattle.heco_print.specs.Statements as spec
-use Rattle.heco_syntax.specs.Parts.{place_of, ident_of, set_op, direction, first_of, first_by}
+use Rattle.heco_syntax.specs.Parts.{place_of, ident_of, def_sign, set_op, direction, first_of, first_by}
 use Rattle.heco_syntax.specs.Productions.{Spells, IsOne, IsNothing, Then, Many, none, more}
 use Rattle.heco_syntax.specs.Sources.{IsSource, IsBlock, block_or, no_block}
 use Rattle.heco_syntax.specs.Sources as g
@@ -125,8 +125,8 @@ number_prints = record {
   };
 }
 
-expression_prints : (n : ℕ) → Prints [] (g.expression n) spec.expression
-expression_prints n = record { prints = λ ts x fits i. record { tokens = spec.expression x; all = refl; plain = sum_plain i fits; is = printed n ts x i } }
+expression_prints : (n : ℕ) → Prints [] (g.expression n) expression
+expression_prints n = record { prints = λ ts x fits i. record { tokens = expression x; all = refl; plain = sum_plain i fits; is = printed n ts x i } }
 
 abbrev direction_tokens : Bool → List Lexeme
 direction_tokens b = mark (if b then k.Out else k.In) ∷ []
@@ -155,6 +155,7 @@ abbrev first_tokens : First → List Lexeme
 first_tokens (first.Int at) = mark_at k.Int at ∷ []
 first_tokens (first.Secret at) = mark_at k.Secret at ∷ []
 first_tokens (first.For at) = mark_at k.For at ∷ []
+first_tokens (first.If at) = mark_at k.If at ∷ []
 first_tokens (first.Name name) = word_of name ∷ []
 
 first_prints : Prints [] (g.known first_of) first_tokens
@@ -164,6 +165,7 @@ first_prints = record { prints = λ ts x fits i. by i.t (subst (Each Fits) i.all
     by t f a e (first.Int at) h = record { tokens = mark_at k.Int at ∷ []; all = refl; plain = (record { fits = refl; text = refl; value = refl }, tt); is = record { t = mark_at k.Int at; all = refl; is = refl } }
     by t f a e (first.Secret at) h = record { tokens = mark_at k.Secret at ∷ []; all = refl; plain = (record { fits = refl; text = refl; value = refl }, tt); is = record { t = mark_at k.Secret at; all = refl; is = refl } }
     by t f a e (first.For at) h = record { tokens = mark_at k.For at ∷ []; all = refl; plain = (record { fits = refl; text = refl; value = refl }, tt); is = record { t = mark_at k.For at; all = refl; is = refl } }
+    by t f a e (first.If at) h = record { tokens = mark_at k.If at ∷ []; all = refl; plain = (record { fits = refl; text = refl; value = refl }, tt); is = record { t = mark_at k.If at; all = refl; is = refl } }
     by t f k.Word e (first.Name name) h = record {
       tokens = word_of name ∷ [];
       all = refl;
@@ -194,18 +196,27 @@ spelled_secret_many at name len = ap spelled_stmt (sym (s.rolls-SecretMany at na
 spelled_set : (name : Ident) (i : Option Expr) (o : SetOp) (at : Place) (x : Expr) → spelled_stmt (s.Set name i o at x) ≡ spec.assignment name i o at x
 spelled_set name i o at x = ap spelled_stmt (sym (s.rolls-Set name i o at x)) ∙ fold-roll-Stmt (List Lexeme) stmt_step (Stmt-F.Set name i o at x)
 
+-- the second block of a choice, where there is one
+abbrev other_tokens : Option (List Stmt) → List Lexeme
+other_tokens None = []
+other_tokens (Some other) = spec.otherwise (flat_map spelled_stmt other)
+
+spelled_choice : (at : Place) (test : Expr) (body : List Stmt) (other : Option (List Stmt)) → spelled_stmt (s.Choice at test body other) ≡ spec.choice at test (flat_map spelled_stmt body) (other_tokens other)
+spelled_choice at test body None = spelled_if at test body
+spelled_choice at test body (Some other) = spelled_either at test body other
+
 module _ (n : ℕ) where
   abbrev value_tokens : Expr → List Lexeme
-  value_tokens x = spec.expression x ++ mark k.Semi ∷ []
+  value_tokens x = expression x ++ mark k.Semi ∷ []
 
   value_prints : Prints [] (g.value n) value_tokens
   value_prints = then_prints (expression_prints n) (λ x. mark_prints k.Semi (record { fits = refl; text = refl; value = refl }) (yields_prints x refl))
 
-  values_prints : Prints [] (g.values n) (spec.separated spec.expression)
+  values_prints : Prints [] (g.values n) (separated expression)
   values_prints = then_prints (expression_prints n) (λ x. then_prints (many_prints (after_prints (expression_prints n))) (λ xs. yields_prints (x ∷ xs) refl))
 
   abbrev braced_tokens : List Expr → List Lexeme
-  braced_tokens xs = spec.braces (spec.separated spec.expression xs)
+  braced_tokens xs = spec.braces (separated expression xs)
 
   braced_prints : Prints [] (g.braced_values n) braced_tokens
   braced_prints = mark_prints k.OpenBrace (record { fits = refl; text = refl; value = refl }) (then_prints values_prints (λ xs. mark_prints k.CloseBrace (record { fits = refl; text = refl; value = refl }) (yields_prints xs refl)))
@@ -246,21 +257,29 @@ module _ (n : ℕ) where
   secret_prints at = then_prints word_prints (λ name. or_prints (secret_many_prints at name) (secret_one_prints at name))
 
   abbrev bounds_tokens : Expr × Expr → List Lexeme
-  bounds_tokens b = spec.expression b.0 ++ (mark k.Range ∷ spec.expression b.1)
+  bounds_tokens b = expression b.0 ++ (mark k.Range ∷ expression b.1)
 
   bounds_prints : Prints [] (g.bounds n) bounds_tokens
   bounds_prints = then_prints (expression_prints n) (λ low. mark_prints k.Range (record { fits = refl; text = refl; value = refl }) (then_prints (expression_prints n) (λ high.
-      yields_prints (low, high) (append_assoc (spec.expression low) (mark k.Range ∷ []) (spec.expression high)))))
+      yields_prints (low, high) (append_assoc (expression low) (mark k.Range ∷ []) (expression high)))))
 
   module _ {block : Spells (List Stmt)} (block_prints : Prints [] block spec.block) where
     loop_prints : (at : Place) → Prints (mark_at k.For at ∷ []) (g.loop n block at) spelled_stmt
     loop_prints at = then_prints word_prints (λ name. mark_prints k.In (record { fits = refl; text = refl; value = refl }) (then_prints bounds_prints (λ b. then_prints block_prints (λ body.
         yields_prints (s.Loop at name b.0 b.1 body) (sym (spelled_loop at name b.0 b.1 body))))))
 
+    other_prints : Prints [] (λ ts x. g.otherwise n block ts x ⊎ g.no_otherwise n block ts x) other_tokens
+    other_prints = or_prints (mark_prints k.Else (record { fits = refl; text = refl; value = refl }) (then_prints block_prints (λ other. yields_prints (Some other) refl))) (yields_prints None refl)
+
+    choice_prints : (at : Place) → Prints (mark_at k.If at ∷ []) (g.choice n block at) spelled_stmt
+    choice_prints at = then_prints (expression_prints n) (λ test. then_prints block_prints (λ body. then_prints other_prints (λ other. yields_prints (s.Choice at test body other)
+        (append_assoc (spec.choice_head at test) (spec.block body) (other_tokens other) ∙ sym (spelled_choice at test body other)))))
+
     rest_prints : (f : First) → Prints (first_tokens f) (g.statement_from n block f) spelled_stmt
     rest_prints (first.Int at) = int_prints at
     rest_prints (first.Secret at) = secret_prints at
     rest_prints (first.For at) = loop_prints at
+    rest_prints (first.If at) = choice_prints at
     rest_prints (first.Name name) = assignment_prints name
 
     statement_prints : Prints [] (g.statement n block) spelled_stmt
@@ -280,23 +299,47 @@ param_prints = then_prints direction_prints (λ out. then_prints word_prints (λ
     given : Prints [] g.length_given spec.length_given
     given = then_prints length_prints (λ len. yields_prints (Some len) refl)
 
-abbrev head_tokens : Ident × Ident → List Lexeme
-head_tokens p = mark k.Params ∷ word_of p.0 ∷ mark k.Semi ∷ mark k.Fn ∷ word_of p.1 ∷ []
+preset_prints : Prints [] g.preset_line spec.preset_line
+preset_prints = mark_prints k.Params (record { fits = refl; text = refl; value = refl }) (then_prints word_prints (λ preset. mark_prints k.Semi (record { fits = refl; text = refl; value = refl }) (yields_prints preset refl)))
 
-head_prints : Prints [] g.head head_tokens
-head_prints = mark_prints k.Params (record { fits = refl; text = refl; value = refl }) (then_prints word_prints (λ preset. mark_prints k.Semi (record { fits = refl; text = refl; value = refl })
-    (mark_prints k.Fn (record { fits = refl; text = refl; value = refl }) (then_prints word_prints (λ name. yields_prints (preset, name) refl)))))
+abbrev def_tokens : Place → List Lexeme
+def_tokens at = mark_at k.Def at ∷ []
+
+def_prints : Prints [] (g.known def_sign) def_tokens
+def_prints = record { prints = λ ts at fits i. record { tokens = mark_at k.Def at ∷ []; all = refl; plain = (record { fits = refl; text = refl; value = refl }, tt); is = record { t = mark_at k.Def at; all = refl; is = refl } } }
+
+abbrev params_tokens : List Ident → List Lexeme
+params_tokens xs = parens (spec.words xs)
+
+params_prints : Prints [] g.params params_tokens
+params_prints = mark_prints k.Open (record { fits = refl; text = refl; value = refl }) (then_prints (or_prints (yields_prints [] refl) some) (λ xs. mark_prints k.Close (record { fits = refl; text = refl; value = refl }) (yields_prints xs refl)))
+  where
+    some : Prints [] g.some_words spec.words
+    some = then_prints word_prints (λ x. then_prints (many_prints (after_prints word_prints)) (λ xs. yields_prints (x ∷ xs) refl))
+
+definition_prints : (n : ℕ) → Prints [] (g.definition n) spec.definition
+definition_prints n = then_prints def_prints (λ at. then_prints word_prints (λ name. then_prints params_prints (λ xs. mark_prints k.Assign (record { fits = refl; text = refl; value = refl }) (then_prints (value_prints n) (λ x.
+    yields_prints (record { at = at; name = name; params = xs; value = x })
+    (ap (λ v. mark_at k.Def at ∷ word_of name ∷ v) (append_assoc (params_tokens xs) (mark k.Assign ∷ []) (expression x ++ mark k.Semi ∷ []))))))))
 
 abbrev signature_tokens : List Param → List Lexeme
-signature_tokens ps = mark k.Open ∷ (spec.separated spec.param ps ++ mark k.Close ∷ [])
+signature_tokens ps = mark k.Open ∷ (separated spec.param ps ++ mark k.Close ∷ [])
 
 signature_prints : Prints [] g.signature signature_tokens
 signature_prints = mark_prints k.Open (record { fits = refl; text = refl; value = refl }) (then_prints (or_prints (yields_prints [] refl) some) (λ ps. mark_prints k.Close (record { fits = refl; text = refl; value = refl }) (yields_prints ps refl)))
   where
-    some : Prints [] g.some_params (spec.separated spec.param)
+    some : Prints [] g.some_params (separated spec.param)
     some = then_prints param_prints (λ p. then_prints (many_prints (after_prints param_prints)) (λ ps. yields_prints (p ∷ ps) refl))
 
 pub source_prints : (n d : ℕ) → Prints [] (IsSource n d) spelled_source
-source_prints n d = then_prints head_prints (λ names. then_prints signature_prints (λ ps. then_prints (block_prints n d) (λ xs.
-    yields_prints (record { params = names.0; name = names.1; ports = ps; body = xs })
-    (ap (λ v. spec.head names.0 names.1 ++ v) (append_assoc (spec.separated spec.param ps) (mark k.Close ∷ []) (spec.block xs))))))
+source_prints n d = then_prints preset_prints (λ preset. then_prints (many_prints (definition_prints n)) (λ defs. mark_prints k.Fn (record { fits = refl; text = refl; value = refl }) (then_prints word_prints (λ name.
+    then_prints signature_prints (λ ps. then_prints (block_prints n d) (λ xs.
+    yields_prints (record { params = preset; defs = defs; name = name; ports = ps; body = xs }) (ap (λ v. spec.preset_line preset ++ v) (rejoined (flat_map spec.definition defs) name ps (spec.block xs)))))))))
+  where
+    rejoined : (ds : List Lexeme) (name : Ident) (ps : List Param) (body : List Lexeme)
+        → (((ds ++ mark k.Fn ∷ []) ++ word_of name ∷ []) ++ signature_tokens ps) ++ body ≡ ds ++ (spec.name_line name ++ (separated spec.param ps ++ (mark k.Close ∷ body)))
+    rejoined ds name ps body =
+        ap (λ v. (v ++ signature_tokens ps) ++ body) (append_assoc ds (mark k.Fn ∷ []) (word_of name ∷ []))
+        ∙ ap (λ v. v ++ body) (append_assoc ds (mark k.Fn ∷ word_of name ∷ []) (signature_tokens ps))
+        ∙ append_assoc ds (mark k.Fn ∷ word_of name ∷ signature_tokens ps) body
+        ∙ ap (λ v. ds ++ (mark k.Fn ∷ word_of name ∷ mark k.Open ∷ v)) (append_assoc (separated spec.param ps) (mark k.Close ∷ []) body)

@@ -1,5 +1,6 @@
 -- A source that was judged by its first bytes, one more than a source may have.
-use Rattle.std.proofs.Common.{◌≡◌, ◌<◌, subst, ℕ, List, take, length, Result, Ok, Err, inl, inr, ◌⊎◌, arith}
+use Rattle.std.proofs.Common.{◌≡◌, ◌<◌, subst, ℕ, List, take, length, ◌+◌, Result, Ok, Err, inl, inr, ◌⊎◌, arith}
+use Rattle.heco_parse.specs.Trees.{source_limit}
 use Rattle.heco_sources.specs.Sources.{IsSource, IsRefused}
 use Rattle.heco_sources.specs.declared.source.SourceErr.{SourceErr}
 use Rattle.heco_sources.specs.declared.source.SourceErr.TheVariants as source
@@ -21,7 +22,7 @@ refused_source text source.SourceLong r is h only = ((λ s fits. none source.Sou
 refused_source text (source.At rule at) r is h only = ((λ s fits. none (source.At rule at) s r is (only s fits) (λ e. let no : ⊥ = cc in no)), h)
 refused_source text source.Memory r is h only = tt
 
-long_source : (text bytes : List ℕ) (result : Result Source Outcome) → 65536 < length text → 65536 < length bytes → Judges IsSource IsSourceRefusal bytes result → Judges IsSource IsSourceRefusal text result
+long_source : (text bytes : List ℕ) (result : Result Source Outcome) → source_limit < length text → source_limit < length bytes → Judges IsSource IsSourceRefusal bytes result → Judges IsSource IsSourceRefusal text result
 long_source text bytes (Ok s) long more j = absurd (let short = j.short in omega arith)
 long_source text bytes (Err (Refused SourceLong)) long more j = ((λ s is. let short = is.short in omega arith), long)
 long_source text bytes (Err (Refused (At rule at))) long more j = absurd (let short = j.1.0 in omega arith)
@@ -31,8 +32,8 @@ long_source text bytes (Err Fine) long more j = absurd j
 long_source text bytes (Err (ReadFault k)) long more j = absurd j
 long_source text bytes (Err (WriteFault k)) long more j = absurd j
 
-pub judged_source : (text bytes : List ℕ) (result : Result Source Outcome) → take 65537 text ≡ bytes → Judges IsSource IsSourceRefusal bytes result → Judges IsSource IsSourceRefusal text result
-judged_source text bytes result cut j = elim (whole_or_long text bytes 65536 cut) [
+pub judged_source : (text bytes : List ℕ) (result : Result Source Outcome) → take (source_limit + 1) text ≡ bytes → Judges IsSource IsSourceRefusal bytes result → Judges IsSource IsSourceRefusal text result
+judged_source text bytes result cut j = elim (whole_or_long text bytes source_limit cut) [
   | inl same ↦ subst (λ t. Judges IsSource IsSourceRefusal t result) same j
   | inr long ↦ long_source text bytes result long.0 long.1 j
 ]

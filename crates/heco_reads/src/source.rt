@@ -6,12 +6,10 @@ ghost use Rattle.heco_reads.specs.SourceFiles.{IsSourceRefusal, source_answer};
 
 use heco_jobs::{Outcome, Refusal, read_bytes};
 use heco_outside::Store;
+use heco_parse::SOURCE_LIMIT;
 use heco_sources::SourceErr;
 use heco_types::Typed;
 use std::alloc::Global;
-
-// One byte more than a source may have, so that a longer text is seen as longer.
-const SOURCE_LIMIT: u64 = 65537;
 
 fn answer(error: SourceErr) -> Outcome
     ensures { result ≡ source_answer error }
@@ -41,6 +39,8 @@ pub fn read_source<S: Store>(
 ) -> Result<Typed, Outcome>
     ensures { IsThingRead S.Store (texts words.now) which IsSource IsSourceRefusal store.old store.new result }
 {
-    let text = read_bytes(alloc, words, which, SOURCE_LIMIT, store)?;
+    // One byte more than a source may have, so that a longer text is seen as longer.
+    let limit = SOURCE_LIMIT as u64 + 1;
+    let text = read_bytes(alloc, words, which, limit, store)?;
     judge_source(alloc, text.as_slice())
 }

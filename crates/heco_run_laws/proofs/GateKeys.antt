@@ -11,7 +11,7 @@ use Rattle.heco_circuit.specs.Needs.{is_relin, turns_by, occurring, needs_relin,
 use Rattle.heco_circuit.specs.Plans.{Plan, input_parts}
 use Rattle.heco_circuit.specs.Validity.{has_parts, is_between, is_gate, with_gate}
 use Rattle.heco_circuit.specs.declared.gate.Gate.{Gate}
-use Rattle.heco_circuit.specs.declared.gate.Gate.TheVariants.{Neg, Add, Mul, Relin, Scale, Shift, Turn}
+use Rattle.heco_circuit.specs.declared.gate.Gate.TheVariants.{Neg, Add, Sub, Mul, Relin, Scale, Shift, Turn}
 use Rattle.heco_keys.specs.Made.{purpose, source_of}
 use Rattle.heco_material.specs.KeyLists.{KeyLists, IsKeyMaterial}
 use Rattle.heco_run_laws.specs.Carried.{HasKey, HaveKeys}
@@ -89,6 +89,7 @@ module _ (p : Preset) (c : Plan) (k : KeyLists) (material : IsKeyMaterial p.n p.
       gate_has : (g : Gate) → is_gate (modulus_of c.preset) (slots_of c.preset) ps g ≡ true → ((test : Gate → Bool) → test g ≡ true → list_any test c.gates ≡ true) → HasKey p k.s (switch_keys p.n c k) g
       gate_has (Neg a) h is = tt
       gate_has (Add a b) h is = tt
+      gate_has (Sub a b) h is = tt
       gate_has (Mul a b) h is = tt
       gate_has (Relin a) h is = relin_key (is is_relin refl)
       gate_has (Scale x a) h is = tt

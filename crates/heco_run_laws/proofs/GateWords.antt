@@ -14,7 +14,7 @@ use Rattle.heco_ring.proofs.Reduced.{length-reduced, reduced-lt}
 use Rattle.heco_scheme.specs.Bounds.{AreWords}
 use Rattle.heco_scheme.specs.Ciphertexts.{parts}
 use Rattle.heco_scheme.specs.Encryption.{encrypted}
-use Rattle.heco_scheme.specs.Gates.{added, negated, scaled_by, shifted, multiplied, switched, relinearised, turned}
+use Rattle.heco_scheme.specs.Gates.{added, subtracted, negated, scaled_by, shifted, multiplied, switched, relinearised, turned}
 use Rattle.heco_scheme.specs.Noise.{q}
 use Rattle.heco_scheme.specs.Rounding.{rounded_all}
 use Rattle.heco_scheme.proofs.PartLaws.{length-parts}
@@ -49,6 +49,14 @@ added_words p a b = parts_words p.n (max (length a) (length b)) _
 pub length-added : (p : Preset) (a b : List (List ℕ)) → length (added p a b) ≡ max (length a) (length b)
 unfolding added
 length-added p a b = length-parts (max (length a) (length b)) _
+
+pub subtracted_words : (p : Preset) (a b : List (List ℕ)) → All (AreWords p.n) (subtracted p a b)
+unfolding subtracted
+subtracted_words p a b = parts_words p.n (max (length a) (length b)) _
+
+pub length-subtracted : (p : Preset) (a b : List (List ℕ)) → length (subtracted p a b) ≡ max (length a) (length b)
+unfolding subtracted
+length-subtracted p a b = length-parts (max (length a) (length b)) _
 
 pub negated_words : (p : Preset) (a : List (List ℕ)) → All (AreWords p.n) (negated p a)
 unfolding negated

@@ -5,10 +5,12 @@ use Rattle.std.proofs.lemmas.Nat.{mod-mul-add}
 use Rattle.std.proofs.lemmas.List.{ext_get_or, get_or-map, length-map, length-append, length-drop, length-take-le, get_or_append_left, get_or-append_right, get_or-drop, get_or-take}
 use Rattle.heco_nums.specs.declared.preset.Preset.{Preset}
 use Rattle.heco_nums.proofs.PresetFacts.{facts}
-use Rattle.heco_meaning.specs.Meanings.{sums, products, turned}
+use Rattle.heco_meaning.specs.Meanings.{sums, differences, products, turned}
 use Rattle.heco_slots.specs.Messages as message
-use Rattle.heco_slots.specs.Rows.{row_of}
-use Rattle.heco_slots.proofs.SlotsInRow.{row_long, row_at, in_sum, in_opposite, in_multiple, in_raised, in_product, in_turned}
+use Rattle.heco_ring.specs.Slots.{value}
+use Rattle.heco_ring.proofs.Remainders.{rem-lt}
+use Rattle.heco_slots.specs.Rows.{slot_in, row_of}
+use Rattle.heco_slots.proofs.SlotsInRow.{row_long, row_at, in_sum, in_difference, in_opposite, in_multiple, in_raised, in_product, in_turned}
 
 -- ---- lists place by place
 
@@ -22,6 +24,17 @@ sums_at t [] ys j e h = absurd (omega arith)
 sums_at t (x ∷ xs) [] j e h = absurd (omega arith)
 sums_at t (x ∷ xs) (y ∷ ys) zero e h = refl
 sums_at t (x ∷ xs) (y ∷ ys) (suc j) e h = sums_at t xs ys j (omega arith) (omega arith)
+
+length-differences : (t : ℕ) (xs ys : List ℕ) → length xs ≡ length ys → length (differences t xs ys) ≡ length xs
+length-differences t [] ys e = refl
+length-differences t (x ∷ xs) [] e = absurd (omega arith)
+length-differences t (x ∷ xs) (y ∷ ys) e = ap (λ n. suc n) (length-differences t xs ys (omega arith))
+
+differences_at : (t : ℕ) (xs ys : List ℕ) (j : ℕ) → length xs ≡ length ys → j < length xs → get_or (differences t xs ys) j 0 ≡ (get_or xs j 0 + (t - get_or ys j 0 % t)) % t
+differences_at t [] ys j e h = absurd (omega arith)
+differences_at t (x ∷ xs) [] j e h = absurd (omega arith)
+differences_at t (x ∷ xs) (y ∷ ys) zero e h = refl
+differences_at t (x ∷ xs) (y ∷ ys) (suc j) e h = differences_at t xs ys j (omega arith) (omega arith)
 
 length-products : (t : ℕ) (xs ys : List ℕ) → length xs ≡ length ys → length (products t xs ys) ≡ length xs
 length-products t [] ys e = refl
@@ -54,6 +67,11 @@ turned_at r xs j h l = elim (cases_lt (j + r) (length xs)) [
 
 -- ---- rows
 
+-- a slot is below t
+slot_below : (p : Preset) (e : ℕ) (m : List ℕ) (j : ℕ) → slot_in p e m j < p.t
+unfolding slot_in value
+slot_below p e m j = rem-lt p.t _ (facts p).t_pos
+
 slots_pos : (n s : ℕ) → 0 < n → n ≡ 2 * s → 0 < s
 slots_pos n s p e = omega arith
 
@@ -66,6 +84,16 @@ module _ (p : Preset) (e : ℕ) where
       let lt : j < p.slots = omega (arith, long) in
       row_at p e (message.sum p m l) j lt ∙ in_sum p e m l j
       ∙ sym (sums_at p.t (row_of p e m) (row_of p e l) j same (omega (arith, row_long p e m)) ∙ rw (row_at p e m j lt, row_at p e l j lt) refl))
+
+  pub row_difference : (m l : List ℕ) → row_of p e (message.difference p m l) ≡ differences p.t (row_of p e m) (row_of p e l)
+  row_difference m l =
+      let same : length (row_of p e m) ≡ length (row_of p e l) = row_long p e m ∙ sym (row_long p e l) in
+      let long : length (row_of p e (message.difference p m l)) ≡ p.slots = row_long p e (message.difference p m l) in
+      ext_get_or 0 _ _ (long ∙ sym (length-differences p.t (row_of p e m) (row_of p e l) same ∙ row_long p e m)) (λ j h.
+      let lt : j < p.slots = omega (arith, long) in
+      row_at p e (message.difference p m l) j lt ∙ in_difference p e m l j
+      ∙ sym (differences_at p.t (row_of p e m) (row_of p e l) j same (omega (arith, row_long p e m))
+      ∙ rw (row_at p e m j lt, row_at p e l j lt, mod-eq_of_lt (slot_below p e l j)) refl))
 
   pub row_product : (m l : List ℕ) → e % 2 ≡ 1 → row_of p e (message.product p m l) ≡ products p.t (row_of p e m) (row_of p e l)
   row_product m l odd =

@@ -12,10 +12,10 @@ use Rattle.heco_circuit.specs.Plans.{Plan, input_parts}
 use Rattle.heco_circuit.specs.Circuits.{IsCircuit}
 use Rattle.heco_circuit.specs.Validity.{is_wire, has_parts, is_between, is_gate, parts_of, with_gate}
 use Rattle.heco_circuit.specs.declared.gate.Gate.{Gate}
-use Rattle.heco_circuit.specs.declared.gate.Gate.TheVariants.{Neg, Add, Mul, Relin, Scale, Shift, Turn}
-use Rattle.heco_meaning.specs.Meanings.{sums, products, turned, filled, wire_of, with_wire, wires_of}
+use Rattle.heco_circuit.specs.declared.gate.Gate.TheVariants.{Neg, Add, Sub, Mul, Relin, Scale, Shift, Turn}
+use Rattle.heco_meaning.specs.Meanings.{sums, differences, products, turned, filled, wire_of, with_wire, wires_of}
 use Rattle.heco_slots.specs.Rows.{first_row, second_row, row_of, encoded_two}
-use Rattle.heco_run_laws.proofs.RowLists.{row_sum, row_product, row_opposite, row_multiple, row_raised, row_turned}
+use Rattle.heco_run_laws.proofs.RowLists.{row_sum, row_difference, row_product, row_opposite, row_multiple, row_raised, row_turned}
 use Rattle.heco_slots.proofs.BothRows.{first_comes_back, second_comes_back}
 use Rattle.heco_run_laws.specs.Messages.{message_by, with_message, messages_along}
 use Rattle.heco_run_laws.specs.Carried.{FitsRow, MessagesMeanTheirRows, RowsAreIndependent, two_row_messages}
@@ -37,6 +37,9 @@ module _ (p : Preset) (e : ℕ) (odd : e % 2 ≡ 1) where
   gate_row ps ms many (Add a b) h =
       let both = and_parts (is_wire ps a) (is_wire ps b) h in
       row_sum p e (get_or ms a []) (get_or ms b []) ∙ ap₂ (sums p.t) (sym (row_here ps ms a many both.0)) (sym (row_here ps ms b many both.1))
+  gate_row ps ms many (Sub a b) h =
+      let both = and_parts (is_wire ps a) (is_wire ps b) h in
+      row_difference p e (get_or ms a []) (get_or ms b []) ∙ ap₂ (differences p.t) (sym (row_here ps ms a many both.0)) (sym (row_here ps ms b many both.1))
   gate_row ps ms many (Mul a b) h =
       let both = and_parts (has_parts 2 ps a) (has_parts 2 ps b) h in
       row_product p e (get_or ms a []) (get_or ms b []) odd ∙ ap₂ (products p.t) (sym (row_here ps ms a many (and_parts _ _ both.0).0)) (sym (row_here ps ms b many (and_parts _ _ both.1).0))

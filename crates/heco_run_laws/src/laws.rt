@@ -1,5 +1,5 @@
 ghost use Rattle.std.specs.Prelude.{◌≡◌, ◌≤◌, ◌-◌, ◌*◌, ◌+◌, ◌%◌, ℕ, List, map};
-ghost use Rattle.heco_meaning.specs.Meanings.{sums, products, turned};
+ghost use Rattle.heco_meaning.specs.Meanings.{sums, differences, products, turned};
 ghost use Rattle.heco_nums.specs.declared.preset.Preset.{Preset};
 ghost use Rattle.heco_slots.specs.Messages as message;
 ghost use Rattle.heco_slots.specs.Rows.{row_of};
@@ -79,9 +79,10 @@ pub fn made_keys_are_for_the_gates()
 {}
 
 /// What is done to a message is done to each of its slots, in every row alike; a turn turns each row.
-#[tactic(auto, using(crate::proofs::RowLists::row_sum, crate::proofs::RowLists::row_product, crate::proofs::RowLists::row_opposite, crate::proofs::RowLists::row_multiple, crate::proofs::RowLists::row_raised, crate::proofs::RowLists::row_turned))]
+#[tactic(auto, using(crate::proofs::RowLists::row_sum, crate::proofs::RowLists::row_difference, crate::proofs::RowLists::row_product, crate::proofs::RowLists::row_opposite, crate::proofs::RowLists::row_multiple, crate::proofs::RowLists::row_raised, crate::proofs::RowLists::row_turned))]
 pub fn rows_of_messages()
     ensures sum { (p : Preset) (e : ℕ) (m l : List ℕ) → row_of p e (message.sum p m l) ≡ sums p.t (row_of p e m) (row_of p e l) }
+    ensures difference { (p : Preset) (e : ℕ) (m l : List ℕ) → row_of p e (message.difference p m l) ≡ differences p.t (row_of p e m) (row_of p e l) }
     ensures product { (p : Preset) (e : ℕ) (m l : List ℕ) → e % 2 ≡ 1 → row_of p e (message.product p m l) ≡ products p.t (row_of p e m) (row_of p e l) }
     ensures negative { (p : Preset) (e : ℕ) (m : List ℕ) → row_of p e (message.opposite p m) ≡ map (λ x. (p.t - x) % p.t) (row_of p e m) }
     ensures multiple { (p : Preset) (e c : ℕ) (m : List ℕ) → row_of p e (message.multiple p c m) ≡ map (λ x. (c * x) % p.t) (row_of p e m) }

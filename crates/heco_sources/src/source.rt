@@ -14,7 +14,7 @@ use std::alloc::Global;
 /// Why a text is no typed source.
 #[derive(Clone, Copy, Debug, PartialEq, Eq)]
 pub enum SourceErr {
-    /// The text has more than 65,536 bytes.
+    /// The text has more than 1,048,576 bytes.
     SourceLong,
     /// The first rule of reading that the text breaks, or else the first rule of typing, and the place of its token.
     At { rule: Rule, at: Place },
@@ -56,7 +56,7 @@ fn typed(alloc: Global, text: &[u8], tree: Source) -> Result<Typed, SourceErr>
 
 /// The typed source that the text is.
 ///
-/// `SourceLong` comes exactly above 65,536 bytes; then `At` with the first rule of reading that the text breaks
+/// `SourceLong` comes exactly above 1,048,576 bytes; then `At` with the first rule of reading that the text breaks
 /// (`BadByte`, `Syntax`, `TooNested`), and where it breaks none with the first rule of typing.
 pub fn read_source(alloc: Global, text: &[u8]) -> Result<Typed, SourceErr>
     ensures source { IfOk result (IsSource text.now) }

@@ -3,5 +3,6 @@ pub mod Series
 pub mod StatementReaders
 pub mod Turns
 pub mod BlockReaders
+pub mod DefinitionReaders
 pub mod SourceReaders
 pub mod WholeSources

@@ -6,7 +6,6 @@ use Rattle.heco_lex.specs.declared.token.TokenKind.{TokenKind}
 use Rattle.heco_lex.specs.declared.token.TokenKind.TheVariants as k
 use Rattle.heco_syntax.specs.Grammar.{IsSum}
 use Rattle.heco_syntax.specs.Limits.{Begins}
-use Rattle.heco_syntax.specs.Parts.{product_sign_by, sum_sign_of, with_place}
 use Rattle.heco_syntax.specs.Productions.{Spells, IsOne, IsKnown, IsNothing, Then}
 use Rattle.heco_syntax.specs.declared.lexeme.Lexeme.{Lexeme}
 use Rattle.heco_syntax.specs.declared.tree.Expr.{Expr}
@@ -16,7 +15,7 @@ use Rattle.heco_expressions.proofs.Verdicts.{plain, kinds_same}
 use Rattle.heco_expressions.proofs.Verdicts as expressions
 use Rattle.heco_expressions.proofs.Weaken.{weaken_sum}
 use Rattle.heco_expressions.proofs.Viable.{sum_verdict, factor_verdict, some_sum}
-use Rattle.heco_expressions.proofs.Complete.{Answers, complete_sum, Ends, takes}
+use Rattle.heco_expressions.proofs.Complete.{Answers, complete_sum, Ends, Stops, stops_ends, takes}
 use Rattle.heco_expressions.proofs.Complete as complete
 use Rattle.heco_expressions.proofs.Steady.{Steady, Agree, Follows, left, here, there, both_found, both_syntax, past, at_steady, then_steady, one_steady, gives_steady, sum_steady, factor_steady}
 use Rattle.heco_statements.specs.Reading.{done, either}
@@ -304,19 +303,6 @@ known_starts sign other h us x rest i = ap (λ v. is_at other (v ++ rest)) i.all
 pub then_starts : {A B : Type 0} (P : Spells A) (Q : A → Spells B) (other : TokenKind) (b : Bool) → Starts P other b → Starts (Then P Q) other b
 then_starts P Q other b h us y rest t = ap (λ v. is_at other (v ++ rest)) t.all ∙ ap (is_at other) (append_assoc t.front t.back rest) ∙ h t.front t.x (t.back ++ rest) t.first
 
--- the kind continues no expression
-pub record Stops (kind : TokenKind) : Type 0 where
-  pub bracket : same_kind kind k.OpenBracket ≡ false
-  pub product : (at : Place) → product_sign_by at kind ≡ None
-  pub sum : sum_sign_of kind ≡ None
-
-pub stops_ends : (kind : TokenKind) → Stops kind → (t : Lexeme) (rest : List Lexeme) → t.kind ≡ kind → Ends (t ∷ rest)
-stops_ends kind s t rest h = record {
-  bracket = ap (λ a. same_kind a k.OpenBracket) h ∙ s.bracket;
-  product = ap (λ a. behind rest (product_sign_by t.at a)) h ∙ ap (behind rest) (s.product t.at);
-  sum = ap (λ a. behind rest (with_place t.at (sum_sign_of a))) h ∙ ap (λ o. behind rest (with_place t.at o)) s.sum;
-}
-
 -- its tokens end an expression before them
 abbrev pub EndsBefore : {A : Type 0} → Spells A → Type 0
 EndsBefore {A} P = (us : List Lexeme) (x : A) (rest : List Lexeme) → P us x → Ends (us ++ rest)
@@ -328,19 +314,13 @@ pub then_ends : {A B : Type 0} (P : Spells A) (Q : A → Spells B) → EndsBefor
 then_ends P Q h us y rest t = subst (λ v. Ends v) (sym (ap (λ v. v ++ rest) t.all ∙ append_assoc t.front t.back rest)) (h t.front t.x (t.back ++ rest) t.first)
 
 pub semi_stops : Stops k.Semi
-semi_stops = record { bracket = refl; product = λ at. refl; sum = refl }
+semi_stops = record { bracket = refl; paren = refl; product = λ at. refl; sum = refl }
 
 pub brace_stops : Stops k.CloseBrace
-brace_stops = record { bracket = refl; product = λ at. refl; sum = refl }
+brace_stops = record { bracket = refl; paren = refl; product = λ at. refl; sum = refl }
 
 pub open_brace_stops : Stops k.OpenBrace
-open_brace_stops = record { bracket = refl; product = λ at. refl; sum = refl }
-
-pub bracket_stops : Stops k.CloseBracket
-bracket_stops = record { bracket = refl; product = λ at. refl; sum = refl }
+open_brace_stops = record { bracket = refl; paren = refl; product = λ at. refl; sum = refl }
 
 pub range_stops : Stops k.Range
-range_stops = record { bracket = refl; product = λ at. refl; sum = refl }
-
-pub comma_stops : Stops k.Comma
-comma_stops = record { bracket = refl; product = λ at. refl; sum = refl }
+range_stops = record { bracket = refl; paren = refl; product = λ at. refl; sum = refl }

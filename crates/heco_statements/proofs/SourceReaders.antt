@@ -18,10 +18,10 @@ use Rattle.heco_statements.proofs.Readers.{Four, same_four, Verdict, was_found, 
 use Rattle.heco_statements.proofs.Series.{adds_reader}
 use Rattle.heco_statements.proofs.StatementReaders.{narrow, same_reader, listed, unlisted, first_comma, length_reader}
 use Rattle.heco_statements.proofs.BlockReaders.{block_reader}
+use Rattle.heco_statements.proofs.DefinitionReaders.{definitions_reader, function_ends}
 
-head_reader : Reader read.head (same_four g.head) Any
-head_reader = then_any (one_reader place_of k.Params) (λ p. then_any (one_reader ident_of k.Word) (λ preset. then_any (one_reader place_of k.Semi) (λ s. then_any (one_reader place_of k.Fn) (λ f.
-    then_any (one_reader ident_of k.Word) (λ name. done_reader (preset, name))))))
+preset_reader : Reader read.preset_line (same_four g.preset_line) Any
+preset_reader = then_any (one_reader place_of k.Params) (λ p. then_any (one_reader ident_of k.Word) (λ preset. then_any (one_reader place_of k.Semi) (λ s. done_reader preset)))
 
 abbrev NoBracket : List Lexeme → Type 0
 NoBracket rest = is_at k.OpenBracket rest ≡ false
@@ -97,7 +97,10 @@ abbrev pub source_four : ℕ → ℕ → ℕ → ℕ → Four Source
 source_four n d m e = record { is = IsSource n d; cut = IsCut n d; deep = IsSource (suc n) (suc d); wide = IsSource m e }
 
 source_reader : (n d m e : ℕ) → Reader (read.source n d) (source_four n d m e) Any
-source_reader n d m e = then_any head_reader (λ names. then_any signature_reader (λ ps. then_any (block_reader n m d e) (λ xs. done_reader (record { params = names.0; name = names.1; ports = ps; body = xs }))))
+source_reader n d m e = then_any preset_reader (λ preset. then_reader (definitions_reader n m)
+    (λ defs. then_any (one_reader place_of k.Fn) (λ f. then_any (one_reader ident_of k.Word) (λ name. then_any signature_reader (λ ps. then_any (block_reader n m d e) (λ xs.
+    done_reader (record { params = preset; defs = defs; name = name; ports = ps; body = xs }))))))
+    (λ defs us y rest i f. function_ends _ us y rest i) (λ defs us y rest i f. function_ends _ us y rest i))
 
 abbrev pub IsEmpty : List Lexeme → Type 0
 IsEmpty rest = rest ≡ []

@@ -23,9 +23,9 @@ use Rattle.heco_expressions.proofs.Verdicts.{plain, kinds_same}
 use Rattle.heco_expressions.proofs.Viable.{some_sum}
 use Rattle.heco_expressions.proofs.Steady.{at_steady, nested_steady, gives_steady}
 use Rattle.std.specs.Prelude.{if◌then◌else◌}
-use Rattle.heco_expressions.proofs.Complete.{Ends}
+use Rattle.heco_expressions.proofs.Complete.{Ends, stops_ends, bracket_stops, comma_stops}
 use Rattle.heco_statements.specs.Reading as read
-use Rattle.heco_statements.proofs.Readers.{Four, four_of, same_four, Verdict, was_found, was_syntax, was_nested, Answered, answered, too_deep, Kept, kept, Reader, Any, then_reader, then_any, one_reader, done_reader, known_reader, expression_reader, either_reader, one_starts, known_starts, then_starts, one_ends, then_ends, stops_ends, EndsBefore, semi_stops, brace_stops, bracket_stops, range_stops, comma_stops}
+use Rattle.heco_statements.proofs.Readers.{Four, four_of, same_four, or_four, Verdict, was_found, was_syntax, was_nested, Answered, answered, too_deep, Kept, kept, Reader, Any, then_reader, then_any, one_reader, done_reader, known_reader, expression_reader, either_reader, one_starts, known_starts, then_starts, one_ends, then_ends, EndsBefore, semi_stops, brace_stops, range_stops}
 use Rattle.heco_statements.proofs.Series.{Adds, adds_reader}
 
 module _ {A : Type 0} {p : Parser A} {R : Four A} {F : List Lexeme → Type 0} (reads : Reader p R F) where
@@ -218,6 +218,37 @@ target_reader zero m = flat_target m
 target_reader (suc n) m = either_reader k.OpenBracket (narrow (index_reader n m) NoBracket (λ rest f. tt)) (narrow (done_reader None) NoBracket (λ rest f. tt))
     (λ us x rest i f. index_first m us x rest i) (λ us x rest i f. index_first (suc n) us x rest i) (λ us x rest i f. nothing_first us x rest i f) (λ us x rest i f. nothing_first us x rest i f)
 
+-- what follows a statement begins no other branch of it
+abbrev NoElse : List Lexeme → Type 0
+NoElse rest = is_at k.Else rest ≡ false
+
+-- what follows a body
+pub record BodyEnds (rest : List Lexeme) : Type 0 where
+  pub stop : signed first_of rest ≡ None
+  pub branch : NoElse rest
+
+first_no_else : (t : Lexeme) (a : TokenKind) (f : First) → first_by t a ≡ Some f → same_kind a k.Else ≡ false
+first_no_else t k.Int f h = refl
+first_no_else t k.Secret f h = refl
+first_no_else t k.For f h = refl
+first_no_else t k.If f h = refl
+first_no_else t k.Word f h = refl
+first_no_else t a f h = cc
+
+statements_no_else : {A : Type 0} (Item : First → Spells A) (us : List Lexeme) (xs : List A) (rest : List Lexeme) → Many (Then (IsKnown first_of) Item) us xs → BodyEnds rest → NoElse (us ++ rest)
+statements_no_else Item us xs rest none h = h.branch
+statements_no_else Item us xs rest (more {ts = ts} {us = vs} i m) h =
+    let e : (ts ++ vs) ++ rest ≡ i.first.t ∷ ((i.back ++ vs) ++ rest) = ap (λ v. (v ++ vs) ++ rest) (i.all ∙ ap (λ v. v ++ i.back) i.first.all) in
+    ap (is_at k.Else) e ∙ first_no_else i.first.t i.first.t.kind i.x i.first.is
+
+body_closes : {B : Type 0} (Q : Place → Spells B) (us : List Lexeme) (y : B) (rest : List Lexeme) → Then (IsOne place_of k.CloseBrace) Q us y → BodyEnds (us ++ rest)
+body_closes Q us y rest t =
+    let e : us ++ rest ≡ t.first.t ∷ (t.back ++ rest) = ap (λ v. v ++ rest) (t.all ∙ ap (λ v. v ++ t.back) t.first.all) in
+    record {
+      stop = ap (λ v. signed first_of v) e ∙ ap (λ a. behind (t.back ++ rest) (first_by t.first.t a)) t.first.is;
+      branch = ap (is_at k.Else) e ∙ ap (λ a. same_kind a k.Else) t.first.is;
+    }
+
 module _ (n m : ℕ) where
   pub value_reader : Reader (read.value n) (four_of g.value n m) Any
   value_reader = then_reader (expression_reader n m) (λ x. then_any (one_reader place_of k.Semi) (λ at. done_reader x))
@@ -306,28 +337,33 @@ module _ (n m : ℕ) where
         then_reader bounds_reader (λ b. then_any blocks (λ body. done_reader (s.Loop at name b.0 b.1 body)))
         (λ b us y rest j f. then_ends B.wide _ ends_wide us y rest j) (λ b us y rest j f. then_ends B.cut _ ends_cut us y rest j)))
 
-    statement_reader : (f : First) → Reader (read.statement_from n block f) (with_block (λ l b. g.statement_from l b f)) Any
-    statement_reader (first.Int at) = int_reader at
-    statement_reader (first.Secret at) = secret_reader at
-    statement_reader (first.For at) = loop_reader at
-    statement_reader (first.Name name) = assignment_reader name
+    otherwise_reader : Reader (read.maybe_otherwise n block)
+        (or_four (record { is = g.otherwise n B.is; cut = g.otherwise n B.cut; deep = g.otherwise (suc n) B.deep; wide = g.otherwise m B.wide }) (same_four (IsNothing None))) NoElse
+    otherwise_reader = either_reader k.Else
+        (narrow (then_any (one_reader place_of k.Else) (λ at. then_any blocks (λ other. done_reader (Some other)))) NoElse (λ rest f. tt)) (narrow (done_reader None) NoElse (λ rest f. tt))
+        (λ us x rest i f. starts_with k.Else k.Else true refl _ us x rest i) (λ us x rest i f. starts_with k.Else k.Else true refl _ us x rest i)
+        (λ us x rest i f. ap (λ v. is_at k.Else (v ++ rest)) i.all ∙ f) (λ us x rest i f. ap (λ v. is_at k.Else (v ++ rest)) i.all ∙ f)
 
-    BodyEnds : List Lexeme → Type 0
-    BodyEnds rest = signed first_of rest ≡ None
+    choice_reader : (at : Place) → Reader (read.choice n block at) (with_block (λ l b. g.choice l b at)) NoElse
+    choice_reader at = then_reader (expression_reader n m)
+        (λ test. then_any blocks (λ body. then_reader otherwise_reader (λ other. narrow (done_reader (s.Choice at test body other)) NoElse (λ rest f. tt))
+        (λ other us y rest j f. subst (λ v. NoElse (v ++ rest)) (sym j.all) f) (λ other us y rest j f. subst (λ v. NoElse (v ++ rest)) (sym j.all) f)))
+        (λ test us y rest j f. then_ends B.wide _ ends_wide us y rest j) (λ test us y rest j f. then_ends B.cut _ ends_cut us y rest j)
+
+    statement_reader : (f : First) → Reader (read.statement_from n block f) (with_block (λ l b. g.statement_from l b f)) NoElse
+    statement_reader (first.Int at) = narrow (int_reader at) NoElse (λ rest f. tt)
+    statement_reader (first.Secret at) = narrow (secret_reader at) NoElse (λ rest f. tt)
+    statement_reader (first.For at) = narrow (loop_reader at) NoElse (λ rest f. tt)
+    statement_reader (first.If at) = choice_reader at
+    statement_reader (first.Name name) = narrow (assignment_reader name) NoElse (λ rest f. tt)
 
     body_reader : Reader (read.body n block) (record { is = Many (g.statement n B.is); cut = Many (g.statement n B.cut); deep = Many (g.statement (suc n) B.deep); wide = Many (g.statement m B.wide) }) BodyEnds
-    unfolding BodyEnds
     body_reader = same_reader
-        (adds_reader first_of {item = read.statement_from n block} {I = λ f. with_block (λ l b. g.statement_from l b f)} statement_reader BodyEnds (λ rest f. f) (λ us xs rest i f. tt) (λ us xs rest i f. tt) [])
+        (adds_reader first_of {item = read.statement_from n block} {I = λ f. with_block (λ l b. g.statement_from l b f)} statement_reader BodyEnds (λ rest f. f.stop)
+        (λ us xs rest i f. statements_no_else (λ f. g.statement_from m B.wide f) us xs rest i f) (λ us xs rest i f. statements_no_else (λ f. g.statement_from n B.cut f) us xs rest i f) [])
         (record { is = Many (g.statement n B.is); cut = Many (g.statement n B.cut); deep = Many (g.statement (suc n) B.deep); wide = Many (g.statement m B.wide) })
         (alone (g.statement n B.is)) (unalone (g.statement n B.is)) (alone (g.statement n B.cut)) (unalone (g.statement n B.cut)) (alone (g.statement (suc n) B.deep)) (unalone (g.statement m B.wide))
 
     pub braces_reader : Reader (read.braces n block) (record { is = g.braces n B.is; cut = g.braces n B.cut; deep = g.braces (suc n) B.deep; wide = g.braces m B.wide }) Any
-    unfolding BodyEnds
     braces_reader = then_any (one_reader place_of k.OpenBrace) (λ o. then_reader body_reader (λ xs. then_any (one_reader place_of k.CloseBrace) (λ c. done_reader xs))
-        (λ xs us y rest i f. closes _ us y rest i) (λ xs us y rest i f. closes _ us y rest i))
-      where
-        closes : (Q : Place → Spells (List Stmt)) (us : List Lexeme) (y : List Stmt) (rest : List Lexeme) → Then (IsOne place_of k.CloseBrace) Q us y → signed first_of (us ++ rest) ≡ None
-        closes Q us y rest t =
-            let e : us ++ rest ≡ t.first.t ∷ (t.back ++ rest) = ap (λ v. v ++ rest) (t.all ∙ ap (λ v. v ++ t.back) t.first.all) in
-            ap (λ v. signed first_of v) e ∙ ap (λ a. behind (t.back ++ rest) (first_by t.first.t a)) t.first.is
+        (λ xs us y rest i f. body_closes _ us y rest i) (λ xs us y rest i f. body_closes _ us y rest i))

@@ -4,10 +4,11 @@ use Rattle.heco_lex.specs.declared.place.Place.{Place}
 use Rattle.heco_lex.specs.declared.token.TokenKind.{TokenKind}
 use Rattle.heco_lex.specs.declared.token.TokenKind.TheVariants as k
 use Rattle.heco_expressions.specs.Reading.{Parser, Outcome, found, syntax, nested, and_then, is_at, expect, word, number, sum, factor, signed, pick}
-use Rattle.heco_syntax.specs.Parts.{comma, set_op, direction, first_of}
+use Rattle.heco_syntax.specs.Parts.{comma, def_sign, set_op, direction, first_of}
 use Rattle.heco_syntax.specs.declared.first.First.{First}
 use Rattle.heco_syntax.specs.declared.first.First.TheVariants as first
 use Rattle.heco_syntax.specs.declared.lexeme.Lexeme.{Lexeme}
+use Rattle.heco_syntax.specs.declared.tree.Def.{Def}
 use Rattle.heco_syntax.specs.declared.tree.Expr.{Expr}
 use Rattle.heco_syntax.specs.declared.tree.Ident.{Ident}
 use Rattle.heco_syntax.specs.declared.tree.Num.{Num}
@@ -54,6 +55,25 @@ index_within n = do
 abbrev pub index : ℕ → Parser (Option Expr)
 index zero ts = nested ts
 index (suc n) ts = index_within n ts
+
+abbrev pub more_words : Ident → Parser (List Ident)
+more_words x ts = series comma (λ at. word) (length ts) (x ∷ []) ts
+
+abbrev pub some_words : Parser (List Ident)
+some_words = do
+  x ← word
+  more_words x
+
+abbrev pub words : Parser (List Ident)
+words = either k.Close (done []) some_words
+
+-- "(" [ Word { "," Word } ] ")"
+abbrev pub params : Parser (List Ident)
+params = do
+  opens ← expect k.Open
+  xs ← words
+  closes ← expect k.Close
+  done xs
 
 module _ (n : ℕ) where
   abbrev pub expression : Parser Expr
@@ -146,6 +166,17 @@ module _ (n : ℕ) where
     high ← expression
     done (low, high)
 
+  abbrev pub definition_from : Place → Parser Def
+  definition_from at = do
+    name ← word
+    xs ← params
+    assign ← expect k.Assign
+    x ← value
+    done (record { at = at; name = name; params = xs; value = x })
+
+  abbrev pub definitions : Parser (List Def)
+  definitions ts = series def_sign definition_from (length ts) [] ts
+
   module _ (block : Parser (List Stmt)) where
     abbrev pub loop : Place → Parser Stmt
     loop at = do
@@ -155,10 +186,27 @@ module _ (n : ℕ) where
       body ← block
       done (s.Loop at name b.0 b.1 body)
 
+    abbrev pub otherwise : Parser (Option (List Stmt))
+    otherwise = do
+      instead ← expect k.Else
+      other ← block
+      done (Some other)
+
+    abbrev pub maybe_otherwise : Parser (Option (List Stmt))
+    maybe_otherwise = either k.Else otherwise (done None)
+
+    abbrev pub choice : Place → Parser Stmt
+    choice at = do
+      test ← expression
+      body ← block
+      other ← maybe_otherwise
+      done (s.Choice at test body other)
+
     abbrev pub statement_from : First → Parser Stmt
     statement_from (first.Int at) = int_statement at
     statement_from (first.Secret at) = secret_statement at
     statement_from (first.For at) = loop at
+    statement_from (first.If at) = choice at
     statement_from (first.Name name) = assignment name
 
     abbrev pub body : Parser (List Stmt)
@@ -206,14 +254,12 @@ abbrev pub ended : {A : Type 0} → A → Parser A
 ended x [] = found x []
 ended x (t ∷ ts) = syntax (t ∷ ts)
 
-abbrev pub head : Parser (Ident × Ident)
-head = do
+abbrev pub preset_line : Parser Ident
+preset_line = do
   params ← expect k.Params
   preset ← word
   semi ← expect k.Semi
-  fn ← expect k.Fn
-  name ← word
-  done (preset, name)
+  done preset
 
 abbrev pub signature : Parser (List Param)
 signature = do
@@ -225,10 +271,13 @@ signature = do
 module _ (n d : ℕ) where
   abbrev pub source : Parser Source
   source = do
-    names ← head
+    preset ← preset_line
+    defs ← definitions n
+    fn ← expect k.Fn
+    name ← word
     ps ← signature
     xs ← block n d
-    done (record { params = names.0; name = names.1; ports = ps; body = xs })
+    done (record { params = preset; defs = defs; name = name; ports = ps; body = xs })
 
   -- a source, and nothing behind it
   abbrev pub whole : Parser Source

@@ -3,7 +3,7 @@ ghost use Rattle.heco_expressions.specs.Reading.{Reads};
 ghost use Rattle.heco_statements.specs.Reading as spec;
 
 use crate::statement::{assignment, bounds, int_statement, secret_statement};
-use heco_expressions::{Cursor, Stop};
+use heco_expressions::{Cursor, Stop, sum};
 use heco_lex::{Place, TokenKind};
 use heco_nums::List;
 use heco_syntax::{First, Stmt};
@@ -32,6 +32,40 @@ fn loop_statement(
     })
 }
 
+// The block behind `else`, where one stands.
+#[cycle(block)]
+fn otherwise(
+    alloc: Global,
+    cursor: &mut Cursor<'_>,
+    levels: u32,
+    depth: u32,
+) -> Result<Option<List<Stmt>>, Stop>
+    ensures { Reads (spec.maybe_otherwise levels (spec.block levels depth) cursor.old) result cursor.new }
+{
+    if !cursor.is_at(TokenKind::Else) {
+        return Ok(None);
+    }
+    cursor.expect(TokenKind::Else)?;
+    let other = block(alloc, cursor, levels, depth)?;
+    Ok(Some(other))
+}
+
+#[cycle(block)]
+fn choice(
+    alloc: Global,
+    cursor: &mut Cursor<'_>,
+    levels: u32,
+    depth: u32,
+    at: Place,
+) -> Result<Stmt, Stop>
+    ensures { Reads (spec.choice levels (spec.block levels depth) at cursor.old) result cursor.new }
+{
+    let cond = sum(alloc, cursor, levels)?;
+    let yes = block(alloc, cursor, levels, depth)?;
+    let no = otherwise(alloc, cursor, levels, depth)?;
+    Ok(Stmt::Choice { at, cond, yes, no })
+}
+
 #[cycle(block)]
 fn statement(
     alloc: Global,
@@ -46,6 +80,7 @@ fn statement(
         First::Int(at) => int_statement(alloc, cursor, levels, at),
         First::Secret(at) => secret_statement(alloc, cursor, levels, at),
         First::For(at) => loop_statement(alloc, cursor, levels, depth, at),
+        First::If(at) => choice(alloc, cursor, levels, depth, at),
         First::Name(name) => assignment(alloc, cursor, levels, name),
     }
 }

@@ -2,6 +2,7 @@
 #![tactic(auto)]
 
 mod block;
+mod definition;
 mod source;
 mod statement;
 

@@ -3,6 +3,7 @@ ghost use Rattle.heco_expressions.specs.Reading.{Reads};
 ghost use Rattle.heco_statements.specs.Reading as spec;
 
 use crate::block::block;
+use crate::definition::definitions;
 use crate::statement::length_in_brackets;
 use heco_expressions::{Cursor, Stop};
 use heco_lex::TokenKind;
@@ -55,16 +56,14 @@ fn ports(alloc: Global, cursor: &mut Cursor<'_>) -> Result<List<Param>, Stop>
     more_params(alloc, cursor, first)
 }
 
-// The names of the preset and of the function.
-fn head(alloc: Global, cursor: &mut Cursor<'_>) -> Result<(Ident, Ident), Stop>
-    ensures { Reads (spec.head cursor.old) result cursor.new }
+// The name of the preset.
+fn preset_line(alloc: Global, cursor: &mut Cursor<'_>) -> Result<Ident, Stop>
+    ensures { Reads (spec.preset_line cursor.old) result cursor.new }
 {
     cursor.expect(TokenKind::Params)?;
     let preset = cursor.word(alloc)?;
     cursor.expect(TokenKind::Semi)?;
-    cursor.expect(TokenKind::Fn)?;
-    let name = cursor.word(alloc)?;
-    Ok((preset, name))
+    Ok(preset)
 }
 
 fn signature(alloc: Global, cursor: &mut Cursor<'_>) -> Result<List<Param>, Stop>
@@ -79,11 +78,15 @@ fn signature(alloc: Global, cursor: &mut Cursor<'_>) -> Result<List<Param>, Stop
 fn source(alloc: Global, cursor: &mut Cursor<'_>, levels: u32, depth: u32) -> Result<Source, Stop>
     ensures { Reads (spec.source levels depth cursor.old) result cursor.new }
 {
-    let (params, name) = head(alloc, cursor)?;
+    let params = preset_line(alloc, cursor)?;
+    let defs = definitions(alloc, cursor, levels)?;
+    cursor.expect(TokenKind::Fn)?;
+    let name = cursor.word(alloc)?;
     let ports = signature(alloc, cursor)?;
     let body = block(alloc, cursor, levels, depth)?;
     Ok(Source {
         params,
+        defs,
         name,
         ports,
         body,

@@ -9,7 +9,7 @@ use heco_syntax::{Expr, Ident, Num, Stmt};
 use std::alloc::Global;
 
 // An expression and a semicolon.
-fn value(alloc: Global, cursor: &mut Cursor<'_>, levels: u32) -> Result<Expr, Stop>
+pub fn value(alloc: Global, cursor: &mut Cursor<'_>, levels: u32) -> Result<Expr, Stop>
     ensures { Reads (spec.value levels cursor.old) result cursor.new }
 {
     let x = sum(alloc, cursor, levels)?;

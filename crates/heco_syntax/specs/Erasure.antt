@@ -2,6 +2,7 @@
 use Rattle.std.specs.Prelude.{◌≡◌, List, [], ◌∷◌, map, Option, Some, None}
 use Rattle.heco_lex.specs.declared.place.Place.{Place}
 use Rattle.heco_syntax.specs.declared.lexeme.Lexeme.{Lexeme}
+use Rattle.heco_syntax.specs.declared.tree.Def.{Def}
 use Rattle.heco_syntax.specs.declared.tree.Ident.{Ident}
 use Rattle.heco_syntax.specs.declared.tree.Num.{Num}
 use Rattle.heco_syntax.specs.declared.tree.Param.{Param}
@@ -31,6 +32,7 @@ bare_step (Expr-F.Item id x) = e.Item (bare_ident id) x
 bare_step (Expr-F.Neg at x) = e.Neg nowhere x
 bare_step (Expr-F.Sum first rest) = e.Sum first rest
 bare_step (Expr-F.Prod first rest) = e.Prod first rest
+bare_step (Expr-F.Call id args) = e.Call (bare_ident id) args
 
 abbrev pub bare_sum_step : SumPart-F Expr ProdPart SumPart → SumPart
 bare_sum_step p = roll-SumPart (record { minus = p.minus; at = nowhere; of = p.of })
@@ -58,6 +60,7 @@ bare_stmt_step (Stmt-F.SecretOne at name value) = s.SecretOne nowhere (bare_iden
 bare_stmt_step (Stmt-F.SecretMany at name len) = s.SecretMany nowhere (bare_ident name) (bare_num len)
 bare_stmt_step (Stmt-F.Set name index op op_at value) = s.Set (bare_ident name) (bare_some bare index) op nowhere (bare value)
 bare_stmt_step (Stmt-F.Loop at name low high body) = s.Loop nowhere (bare_ident name) (bare low) (bare high) body
+bare_stmt_step (Stmt-F.Choice at test body other) = s.Choice nowhere (bare test) body other
 
 abbrev pub bare_stmt : Stmt → Stmt
 bare_stmt x = fold-Stmt Stmt bare_stmt_step x
@@ -65,8 +68,11 @@ bare_stmt x = fold-Stmt Stmt bare_stmt_step x
 abbrev pub bare_param : Param → Param
 bare_param p = record { output = p.output; name = bare_ident p.name; len = bare_some bare_num p.len }
 
+abbrev pub bare_def : Def → Def
+bare_def d = record { at = nowhere; name = bare_ident d.name; params = map bare_ident d.params; value = bare d.value }
+
 abbrev pub bare_source : Source → Source
-bare_source x = record { params = bare_ident x.params; name = bare_ident x.name; ports = map bare_param x.ports; body = map bare_stmt x.body }
+bare_source x = record { params = bare_ident x.params; defs = map bare_def x.defs; name = bare_ident x.name; ports = map bare_param x.ports; body = map bare_stmt x.body }
 
 -- the same but for the place
 pub record IsLike (t u : Lexeme) : Type 0 where

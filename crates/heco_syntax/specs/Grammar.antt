@@ -7,10 +7,10 @@ use Rattle.heco_syntax.specs.declared.tree.Expr.{Expr}
 use Rattle.heco_syntax.specs.declared.tree.Expr.TheVariants as e
 use Rattle.heco_syntax.specs.declared.tree.SumPart.{SumPart}
 use Rattle.heco_syntax.specs.declared.tree.ProdPart.{ProdPart}
-use Rattle.heco_syntax.specs.Parts.{ident_of, num_of, sum_sign, product_sign, sum_part, product_part, sum_of, product_of}
+use Rattle.heco_syntax.specs.Parts.{ident_of, num_of, sum_sign, product_sign, comma, sum_part, product_part, sum_of, product_of}
 
 mutual
-  -- factor := "-" factor | Number | Word | Word "[" expr "]" | "(" expr ")"
+  -- factor := "-" factor | Number | Word | Word "[" expr "]" | "(" expr ")" | Word "(" [ expr { "," expr } ] ")"
   pub data IsFactor : ℕ → List Lexeme → Expr → Type 0 where
     literal : {n : ℕ} {t : Lexeme} {x : Expr} → t.kind ≡ k.Number → x ≡ e.Lit (num_of t) → IsFactor n (t ∷ []) x
     name : {n : ℕ} {t : Lexeme} {x : Expr} → t.kind ≡ k.Word → x ≡ e.One (ident_of t) → IsFactor n (t ∷ []) x
@@ -18,6 +18,17 @@ mutual
         → IsFactor (suc n) (w ∷ o ∷ (ts ++ c ∷ [])) x
     negative : {n : ℕ} {t : Lexeme} {ts : List Lexeme} {x y : Expr} → t.kind ≡ k.Minus → IsFactor n ts y → x ≡ e.Neg t.at y → IsFactor (suc n) (t ∷ ts) x
     group : {n : ℕ} {o : Lexeme} (c : Lexeme) {ts : List Lexeme} {x : Expr} → o.kind ≡ k.Open → IsSum n ts x → c.kind ≡ k.Close → IsFactor (suc n) (o ∷ (ts ++ c ∷ [])) x
+    call : {n : ℕ} {w o : Lexeme} (c : Lexeme) {ts : List Lexeme} {x : Expr} {args : List Expr} → w.kind ≡ k.Word → o.kind ≡ k.Open → AreArguments n ts args → c.kind ≡ k.Close → x ≡ e.Call (ident_of w) args
+        → IsFactor (suc n) (w ∷ o ∷ (ts ++ c ∷ [])) x
+
+  -- [ expr { "," expr } ]
+  pub data AreArguments : ℕ → List Lexeme → List Expr → Type 0 where
+    no_argument : {n : ℕ} → AreArguments n [] []
+    arguments : {n : ℕ} {ts us : List Lexeme} {x : Expr} {xs : List Expr} → IsSum n ts x → AreFurther n us xs → AreArguments n (ts ++ us) (x ∷ xs)
+
+  pub data AreFurther : ℕ → List Lexeme → List Expr → Type 0 where
+    no_further : {n : ℕ} → AreFurther n [] []
+    further : {n : ℕ} {t : Lexeme} {at : Place} {ts us : List Lexeme} {x : Expr} {xs : List Expr} → comma t ≡ Some at → IsSum n ts x → AreFurther n us xs → AreFurther n (t ∷ (ts ++ us)) (x ∷ xs)
 
   -- term := factor { "*" factor }
   pub data IsProduct : ℕ → List Lexeme → Expr → Type 0 where

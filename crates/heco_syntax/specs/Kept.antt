@@ -5,6 +5,7 @@ use Rattle.heco_lex.specs.declared.place.Place.{Place}
 use Rattle.heco_nums.specs.Words.{is_word}
 use Rattle.heco_syntax.specs.declared.tree.Expr.{Expr, fold-Expr}
 use Rattle.heco_syntax.specs.declared.tree.Expr.TheOpen.{Expr-F, SumPart-F, ProdPart-F}
+use Rattle.heco_syntax.specs.declared.tree.Def.{Def}
 use Rattle.heco_syntax.specs.declared.tree.Ident.{Ident}
 use Rattle.heco_syntax.specs.declared.tree.Num.{Num}
 use Rattle.heco_syntax.specs.declared.tree.Param.{Param}
@@ -34,6 +35,7 @@ kept_step (Expr-F.Item id index) = kept_ident id ++ index
 kept_step (Expr-F.Neg place of) = kept_place place ++ of
 kept_step (Expr-F.Sum first rest) = first ++ flat_map (λ p. p) rest
 kept_step (Expr-F.Prod first rest) = first ++ flat_map (λ p. p) rest
+kept_step (Expr-F.Call id args) = kept_ident id ++ flat_map (λ a. a) args
 
 abbrev pub kept_sum_step : SumPart-F (List Kept) (List Kept) (List Kept) → List Kept
 kept_sum_step p = kept_place p.at ++ p.of
@@ -61,6 +63,7 @@ kept_stmt_step (Stmt-F.SecretOne place name value) = kept_place place ++ (kept_i
 kept_stmt_step (Stmt-F.SecretMany place name len) = kept_place place ++ (kept_ident name ++ kept_num len)
 kept_stmt_step (Stmt-F.Set name index op op_at value) = kept_ident name ++ (kept_some kept_expr index ++ (kept_place op_at ++ kept_expr value))
 kept_stmt_step (Stmt-F.Loop place name low high body) = kept_place place ++ (kept_ident name ++ (kept_expr low ++ (kept_expr high ++ flat_map (λ p. p) body)))
+kept_stmt_step (Stmt-F.Choice place test body other) = kept_place place ++ (kept_expr test ++ (flat_map (λ p. p) body ++ kept_some (flat_map (λ p. p)) other))
 
 abbrev pub kept_stmt : Stmt → List Kept
 kept_stmt x = fold-Stmt (List Kept) kept_stmt_step x
@@ -68,8 +71,11 @@ kept_stmt x = fold-Stmt (List Kept) kept_stmt_step x
 abbrev pub kept_param : Param → List Kept
 kept_param p = kept_ident p.name ++ kept_some kept_num p.len
 
+abbrev pub kept_def : Def → List Kept
+kept_def d = kept_place d.at ++ (kept_ident d.name ++ (flat_map kept_ident d.params ++ kept_expr d.value))
+
 abbrev pub kept_source : Source → List Kept
-kept_source x = kept_ident x.params ++ (kept_ident x.name ++ (flat_map kept_param x.ports ++ flat_map kept_stmt x.body))
+kept_source x = kept_ident x.params ++ (flat_map kept_def x.defs ++ (kept_ident x.name ++ (flat_map kept_param x.ports ++ flat_map kept_stmt x.body)))
 
 -- the one place comes before the other
 abbrev pub Before : Place → Place → Type 0

@@ -25,7 +25,7 @@ abbrev pub cut : Spells (List Stmt)
 cut = IsOne (λ t. []) k.Semi
 
 abbrev pub IsCut : ℕ → ℕ → Spells Source
-IsCut n d = source_with (block_or n cut d)
+IsCut n d = source_with n (block_or n cut d)
 
 -- the tokens open no level and no block too many: they begin a source within the limits, but for blocks that they have not yet opened
 abbrev pub Shallow : List Lexeme → Type 0

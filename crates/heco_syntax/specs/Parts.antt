@@ -51,6 +51,14 @@ comma_by at kind = None
 abbrev pub comma : Lexeme → Option Place
 comma t = comma_by t.at t.kind
 
+abbrev pub def_sign_by : Place → TokenKind → Option Place
+def_sign_by at k.Def = Some at
+def_sign_by at kind = None
+
+-- the "def" that begins a definition
+abbrev pub def_sign : Lexeme → Option Place
+def_sign t = def_sign_by t.at t.kind
+
 abbrev pub set_op_of : TokenKind → Option SetOp
 set_op_of k.Assign = Some op.Put
 set_op_of k.AddAssign = Some op.Add
@@ -75,6 +83,7 @@ abbrev pub first_by : Lexeme → TokenKind → Option First
 first_by t k.Int = Some (first.Int t.at)
 first_by t k.Secret = Some (first.Secret t.at)
 first_by t k.For = Some (first.For t.at)
+first_by t k.If = Some (first.If t.at)
 first_by t k.Word = Some (first.Name (ident_of t))
 first_by t kind = None
 

@@ -4,11 +4,12 @@ use Rattle.heco_lex.specs.declared.place.Place.{Place}
 use Rattle.heco_lex.specs.declared.token.TokenKind.{TokenKind}
 use Rattle.heco_lex.specs.declared.token.TokenKind.TheVariants as k
 use Rattle.heco_syntax.specs.Grammar.{IsSum}
-use Rattle.heco_syntax.specs.Parts.{place_of, ident_of, num_of, comma, set_op, direction, first_of}
+use Rattle.heco_syntax.specs.Parts.{place_of, ident_of, num_of, comma, def_sign, set_op, direction, first_of}
 use Rattle.heco_syntax.specs.Productions.{Spells, IsOne, IsKnown, IsNothing, Many, ◌>>=◌, ◌or◌}
 use Rattle.heco_syntax.specs.declared.first.First.{First}
 use Rattle.heco_syntax.specs.declared.first.First.TheVariants as first
 use Rattle.heco_syntax.specs.declared.lexeme.Lexeme.{Lexeme}
+use Rattle.heco_syntax.specs.declared.tree.Def.{Def}
 use Rattle.heco_syntax.specs.declared.tree.Expr.{Expr}
 use Rattle.heco_syntax.specs.declared.tree.Ident.{Ident}
 use Rattle.heco_syntax.specs.declared.tree.Num.{Num}
@@ -57,6 +58,23 @@ index_within n = do
 abbrev pub index : ℕ → Spells (Option Expr)
 index zero ts x = ⊥
 index (suc n) ts x = index_within n ts x
+
+abbrev pub some_words : Spells (List Ident)
+some_words = do
+  x ← word
+  xs ← Many (after_comma word)
+  yields (x ∷ xs)
+
+abbrev pub no_words : Spells (List Ident)
+no_words = yields []
+
+-- "(" [ Word { "," Word } ] ")"
+abbrev pub params : Spells (List Ident)
+params = do
+  opens ← token k.Open
+  xs ← no_words or some_words
+  closes ← token k.Close
+  yields xs
 
 module _ (n : ℕ) where
   abbrev pub expression : Spells Expr
@@ -153,6 +171,21 @@ module _ (n : ℕ) where
     high ← expression
     yields (low, high)
 
+  -- Word "(" [ Word { "," Word } ] ")" "=" expr ";"
+  abbrev pub definition_from : Place → Spells Def
+  definition_from at = do
+    name ← word
+    xs ← params
+    assign ← token k.Assign
+    x ← value
+    yields (record { at = at; name = name; params = xs; value = x })
+
+  -- "def" Word "(" [ Word { "," Word } ] ")" "=" expr ";"
+  abbrev pub definition : Spells Def
+  definition = do
+    at ← known def_sign
+    definition_from at
+
   module _ (block : Spells (List Stmt)) where
     -- Word "in" expr ".." expr block
     abbrev pub loop : Place → Spells Stmt
@@ -163,14 +196,33 @@ module _ (n : ℕ) where
       body ← block
       yields (s.Loop at name b.0 b.1 body)
 
+    -- "else" block
+    abbrev pub otherwise : Spells (Option (List Stmt))
+    otherwise = do
+      instead ← token k.Else
+      other ← block
+      yields (Some other)
+
+    abbrev pub no_otherwise : Spells (Option (List Stmt))
+    no_otherwise = yields None
+
+    -- expr block [ "else" block ]
+    abbrev pub choice : Place → Spells Stmt
+    choice at = do
+      test ← expression
+      body ← block
+      other ← otherwise or no_otherwise
+      yields (s.Choice at test body other)
+
     -- what follows the first token of a statement
     abbrev pub statement_from : First → Spells Stmt
     statement_from (first.Int at) = int_statement at
     statement_from (first.Secret at) = secret_statement at
     statement_from (first.For at) = loop at
+    statement_from (first.If at) = choice at
     statement_from (first.Name name) = assignment name
 
-    -- "int" .. | "secret" .. | "for" .. | Word ..
+    -- "int" .. | "secret" .. | "for" .. | "if" .. | Word ..
     abbrev pub statement : Spells Stmt
     statement = do
       f ← known first_of
@@ -220,15 +272,13 @@ some_params = do
 abbrev pub no_params : Spells (List Param)
 no_params = yields []
 
--- "params" Word ";" "fn" Word
-abbrev pub head : Spells (Ident × Ident)
-head = do
+-- "params" Word ";"
+abbrev pub preset_line : Spells Ident
+preset_line = do
   params ← token k.Params
   preset ← word
   semi ← token k.Semi
-  fn ← token k.Fn
-  name ← word
-  yields (preset, name)
+  yields preset
 
 -- "(" [ param { "," param } ] ")"
 abbrev pub signature : Spells (List Param)
@@ -238,13 +288,16 @@ signature = do
   closes ← token k.Close
   yields ps
 
--- "params" Word ";" "fn" Word "(" [ param { "," param } ] ")" block
-abbrev pub source_with : Spells (List Stmt) → Spells Source
-source_with block = do
-  names ← head
+-- "params" Word ";" { def } "fn" Word "(" [ param { "," param } ] ")" block
+abbrev pub source_with : ℕ → Spells (List Stmt) → Spells Source
+source_with n block = do
+  preset ← preset_line
+  defs ← Many (definition n)
+  fn ← token k.Fn
+  name ← word
   ps ← signature
   xs ← block
-  yields (record { params = names.0; name = names.1; ports = ps; body = xs })
+  yields (record { params = preset; defs = defs; name = name; ports = ps; body = xs })
 
 abbrev pub IsSource : ℕ → ℕ → Spells Source
-IsSource n d = source_with (IsBlock n d)
+IsSource n d = source_with n (IsBlock n d)

@@ -7,5 +7,6 @@ pub enum First {
     Int(Place),
     Secret(Place),
     For(Place),
+    If(Place),
     Name(Ident),
 }

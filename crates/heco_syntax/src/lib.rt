@@ -10,4 +10,4 @@ mod tree;
 pub use first::First;
 pub use lexeme::Lexeme;
 pub use lexing::lexemes;
-pub use tree::{Expr, Ident, Num, Param, ProdPart, SetOp, Source, Stmt, SumPart};
+pub use tree::{Def, Expr, Ident, Num, Param, ProdPart, SetOp, Source, Stmt, SumPart};

@@ -81,7 +81,8 @@ fn text_of(alloc: Global, field: &str) -> Result<String, Fail> {
     Ok(text)
 }
 
-fn holds(alloc: Global, row: &str) -> Result<bool, Fail> {
+/// Whether typing answers to the source of a row what the row says.
+pub fn holds(alloc: Global, row: &str) -> Result<bool, Fail> {
     let (field, wanted) = row.split_once('|').ok_or("no answer")?;
     let text = text_of(alloc, field)?;
     Ok(answer_to(alloc, text.as_str())?.as_str() == wanted)

@@ -6,3 +6,5 @@ pub mod PresetWords
 pub mod TypedFacts
 pub mod TriedFacts
 pub mod OneCause
+pub mod Shallow
+pub mod DepthLemmas

@@ -51,7 +51,7 @@ find-least p (x ∷ xs) r o e s i t =
 in_table : (r : Rule) (role : Role) (found : Option Entity) → is_broken r role found ≡ true → In r table
 in_table rule.BadByte role found e = absurd (cc)
 in_table rule.Syntax role found e = absurd (cc)
-in_table rule.TooNested role found e = absurd (cc)
+in_table rule.TooNested role found e = inr (inr (inr (inr (inr (inr (inr (inr (inr (inl refl)))))))))
 in_table rule.UnknownParams role found e = inl refl
 in_table rule.UnknownName role found e = inr (inl refl)
 in_table rule.Redeclared role found e = inr (inr (inl refl))
@@ -80,7 +80,7 @@ ordered n [] c = tt
 ordered n (x ∷ xs) c = ((λ r i. let a : row x ≡ n = c.0 in above (n + 1) (row x) xs (omega arith) c.1 r i), ordered (n + 1) xs c.1)
 
 table_counted : Counted 0 table
-table_counted = (refl, (refl, (refl, (refl, (refl, (refl, (refl, (refl, (refl, tt)))))))))
+table_counted = (refl, (refl, (refl, (refl, (refl, (refl, (refl, (refl, (refl, (refl, tt))))))))))
 
 table_ordered : Ordered table
 table_ordered = ordered 0 table table_counted

@@ -1,5 +1,5 @@
 -- What a source has in which nothing is found.
-use Rattle.std.proofs.Common.{◌≡◌, ◌≢◌, ◌∙◌, refl, sym, ap, subst, ℕ, suc, ◌+◌, ◌<◌, ◌≤◌, ◌^◌, Bool, true, false, not, ◌||◌, ◌==◌, nat_le, nat_lt, cond, List, [], ◌∷◌, ◌++◌, length, map, Option, Some, None, arith}
+use Rattle.std.proofs.Common.{◌≡◌, ◌≢◌, ◌∙◌, refl, sym, ap, subst, ℕ, suc, ◌+◌, ◌<◌, ◌≤◌, ◌^◌, Bool, true, false, not, ◌||◌, ◌&&◌, ◌==◌, nat_le, nat_lt, cond, List, [], ◌∷◌, ◌++◌, length, map, Option, Some, None, arith}
 use Rattle.std.specs.List.{All, AllPairs, filter, slice_index_or}
 use Rattle.std.specs.Option.{option_or}
 use Rattle.std.specs.Str.{bytes_eq}
@@ -14,13 +14,14 @@ use Rattle.heco_syntax.specs.Wellformed.{IsWellformed}
 use Rattle.heco_syntax.specs.declared.tree.Num.{Num}
 use Rattle.heco_syntax.specs.declared.tree.Param.{Param}
 use Rattle.heco_syntax.specs.declared.tree.Source.{Source}
-use Rattle.heco_types.specs.Names.{Name, visible, is_secret, is_assignable}
+use Rattle.heco_types.specs.Definitions.{definition_names}
+use Rattle.heco_types.specs.Names.{Name, visible, is_secret, is_assignable, is_definition, params_of, depth_of}
 use Rattle.heco_types.specs.Parameters.{of_length, of_params, of_source, param_limit, param_name, sites}
 use Rattle.heco_types.specs.Presets.{names_preset, slots_named}
 use Rattle.heco_syntax.specs.Ports.{length_of}
 use Rattle.heco_types.specs.Shapes.{shape_of, shapes_of, AllShort}
 use Rattle.heco_types.specs.Sites.{Site, site, first, refusal, refusal_at}
-use Rattle.heco_types.specs.Table.{Role, preset_word, parameter, declares, targets, uses, counts, differ, is_broken, earliest}
+use Rattle.heco_types.specs.Table.{Role, preset_word, parameter, declares, targets, uses, calls, counts, differ, is_broken, earliest, most_calls}
 use Rattle.heco_types.specs.Typing.{IsFine, IsFineAt, HasLength, IsWithin, AreParameters, IsTyped}
 use Rattle.heco_types.specs.declared.context.Context.TheVariants.{Anywhere, Index, Bound, IntValue}
 use Rattle.heco_types.specs.declared.name.Entity.{Entity}
@@ -58,6 +59,17 @@ counts_if value limit equal h =
     let most : nat_lt limit value ≡ false = d.1 in
     (grind (arith, nat_tests), grind (arith, nat_tests), true_if equal (λ t. absurd (let f : not equal ≡ false = e.1 in cc)))
 
+kind_if : (definition a b : Bool) → (definition || differ a b ≡ true → ⊥) → (definition ≡ false) × (a ≡ b)
+kind_if true a b h = absurd (h refl)
+kind_if false a b h = (refl, same_if a b h)
+
+same_count : (a b : ℕ) → (not (a == b) ≡ true → ⊥) → a ≡ b
+same_count a b h = let e : (a == b) ≡ true = true_if (a == b) h in grind (arith, nat_tests)
+
+shallow_if : (inside : Bool) (depth : ℕ) → (inside && nat_le most_calls depth ≡ true → ⊥) → inside ≡ true → depth < most_calls
+shallow_if true depth h i = let e : nat_le most_calls depth ≡ false = false_if (nat_le most_calls depth) h in grind (arith, nat_tests)
+shallow_if false depth h i = absurd (cc)
+
 fine : (role : Role) (found : Option Entity) → ((r : Rule) → is_broken r role found ≡ true → ⊥) → IsFine role found
 fine (preset_word known) found h = true_if known (h rule.UnknownParams)
 fine (parameter number) None h = (refl, below_if number (h rule.Length))
@@ -65,12 +77,20 @@ fine (parameter number) (Some e) h = absurd (h rule.Redeclared refl)
 fine declares None h = refl
 fine declares (Some e) h = absurd (h rule.Redeclared refl)
 fine (targets indexed) None h = absurd (h rule.UnknownName refl)
-fine (targets indexed) (Some e) h = record { entity = e; visible = refl; assignable = true_if (is_assignable e.sort) (h rule.NotAssignable); kind = same_if e.array indexed (h rule.Kind) }
+fine (targets indexed) (Some e) h = record { entity = e; visible = refl; assignable = true_if (is_assignable e.sort) (h rule.NotAssignable); kind = kind_if (is_definition e.sort) e.array indexed (h rule.Kind) }
 fine (uses context indexed) None h = absurd (h rule.UnknownName refl)
-fine (uses Anywhere indexed) (Some e) h = record { entity = e; visible = refl; kind = same_if e.array indexed (h rule.Kind); stands = tt }
-fine (uses Index indexed) (Some e) h = record { entity = e; visible = refl; kind = same_if e.array indexed (h rule.Kind); stands = false_if (is_secret e.sort) (h rule.SecretIndex) }
-fine (uses Bound indexed) (Some e) h = record { entity = e; visible = refl; kind = same_if e.array indexed (h rule.Kind); stands = false_if (is_secret e.sort) (h rule.SecretBound) }
-fine (uses IntValue indexed) (Some e) h = record { entity = e; visible = refl; kind = same_if e.array indexed (h rule.Kind); stands = false_if (is_secret e.sort) (h rule.SecretToPublic) }
+fine (uses Anywhere indexed) (Some e) h = record { entity = e; visible = refl; kind = kind_if (is_definition e.sort) e.array indexed (h rule.Kind); stands = tt }
+fine (uses Index indexed) (Some e) h = record { entity = e; visible = refl; kind = kind_if (is_definition e.sort) e.array indexed (h rule.Kind); stands = false_if (is_secret e.sort) (h rule.SecretIndex) }
+fine (uses Bound indexed) (Some e) h = record { entity = e; visible = refl; kind = kind_if (is_definition e.sort) e.array indexed (h rule.Kind); stands = false_if (is_secret e.sort) (h rule.SecretBound) }
+fine (uses IntValue indexed) (Some e) h = record { entity = e; visible = refl; kind = kind_if (is_definition e.sort) e.array indexed (h rule.Kind); stands = false_if (is_secret e.sort) (h rule.SecretToPublic) }
+fine (calls context count inside) None h = absurd (h rule.UnknownName refl)
+fine (calls context count inside) (Some e) h = record {
+  entity = e;
+  visible = refl;
+  kind = true_if (is_definition e.sort) (h rule.Kind);
+  arity = same_count count (params_of e.sort) (h rule.Length);
+  nesting = shallow_if inside (depth_of e.sort) (h rule.TooNested);
+}
 fine (counts value limit equal) found h = counts_if value limit equal (h rule.Length)
 
 fine_none : (role : Role) (found : Option Entity) → earliest role found ≡ None → IsFine role found
@@ -150,7 +170,7 @@ preset-fine x e = fine_at (site x.params.at x.params.text (preset_word (names_pr
 
 pub parameters-fine : (x : Source) → of_source first x ≡ None → AreParameters (slots_named x.params.text) x.ports
 parameters-fine x e =
-    let a = are (slots_named x.params.text) 0 x.ports [] (slots-fit x.params.text (preset-fine x e)).0 (omega arith) (nothing-left _ _ (nothing-right _ _ e)) in
+    let a = are (slots_named x.params.text) 0 x.ports (definition_names [] x.defs) (slots-fit x.params.text (preset-fine x e)).0 (omega arith) (nothing-left _ _ (nothing-right _ _ (nothing-right _ _ e))) in
     record { count = (let c : 0 + length x.ports ≤ 256 = a.count in omega arith); distinct = a.distinct; lengths = a.lengths }
 
 short : (slots len : ℕ) (output : Bool) → slots ≤ 512 → len ≤ param_limit slots output → len < 2 ^ 32

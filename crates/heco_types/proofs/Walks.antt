@@ -1,8 +1,11 @@
 -- What two ways tell of a tree corresponds, and to what the tree keeps of its tokens.
-use Rattle.std.proofs.Common.{◌≡◌, refl, ap, subst, ◌⊎◌, inl, inr, List, [], ◌∷◌, ◌++◌, map, Option, Some, None, ℕ, suc}
+use Rattle.std.proofs.Common.{◌≡◌, refl, ap, subst, ◌⊎◌, inl, inr, Bool, true, false, List, [], ◌∷◌, ◌++◌, map, Option, Some, None, ℕ, suc}
+use Rattle.std.proofs.lemmas.List.{length-map}
 use Rattle.std.specs.List.{flat_map}
 use Rattle.heco_lex.specs.declared.place.Place.{Place}
-use Rattle.heco_syntax.specs.Kept.{Kept, kept_ident, kept_num, kept_step, kept_product_step, kept_sum_step, kept_sum_part, kept_product_part, kept_expr, kept_some, kept_stmt_step, kept_stmt, kept_param}
+use Rattle.heco_syntax.specs.Kept.{Kept, kept_ident, kept_num, kept_step, kept_product_step, kept_sum_step, kept_sum_part, kept_product_part, kept_expr, kept_some, kept_stmt_step, kept_stmt, kept_param, kept_def}
+use Rattle.heco_syntax.specs.declared.tree.Def.{Def}
+use Rattle.heco_syntax.specs.declared.tree.Ident.{Ident}
 use Rattle.heco_syntax.specs.declared.tree.Expr.{Expr, ind-Expr, roll-Expr}
 use Rattle.heco_syntax.specs.declared.tree.Expr.TheFolds.{map-Expr, map-ProdPart, map-SumPart, fold-roll-Expr, fold-roll-ProdPart, fold-roll-SumPart}
 use Rattle.heco_syntax.specs.declared.tree.Expr.TheOpen.{Expr-F, SumPart-F, ProdPart-F}
@@ -14,7 +17,8 @@ use Rattle.heco_syntax.specs.declared.tree.Stmt.{Stmt, ind-Stmt, roll-Stmt}
 use Rattle.heco_syntax.specs.declared.tree.Stmt.TheFolds.{map-Stmt, fold-roll-Stmt}
 use Rattle.heco_syntax.specs.declared.tree.Stmt.TheOpen.{Stmt-F}
 use Rattle.heco_syntax.specs.declared.tree.SumPart.{SumPart, roll-SumPart}
-use Rattle.heco_types.specs.Expressions.{Told, each, of_layer, of_product_layer, of_sum_layer, of_expr, of_product, of_sum}
+use Rattle.heco_types.specs.Definitions.{argument_name, definition_name, definition_names, of_arguments, of_definitions}
+use Rattle.heco_types.specs.Expressions.{Told, invoked, each, of_layer, of_product_layer, of_sum_layer, of_expr, of_product, of_sum}
 use Rattle.heco_types.specs.Names.{Name}
 use Rattle.heco_types.specs.Parameters.{of_length, of_params, of_source, param_limit, param_name}
 use Rattle.heco_types.specs.Sites.{Report, Site}
@@ -33,71 +37,83 @@ module _ {M N : Type 0} (r : Report M) (q : Report N) (R : M → N → List Kept
   along : (x y : M) (u v : N) (ks ls : List Kept) → x ≡ y → u ≡ v → ks ≡ ls → R y v ls → R x u ks
   along x y u v ks ls a b c s = rw (a, b, c) s
 
-  abbrev ExprFollows : Expr → Type 0
-  ExprFollows x = (context : Context) (names : List Name) → R (of_expr r x context names) (of_expr q x context names) (kept_expr x)
+  module _ (inside : Bool) where
+    abbrev ExprFollows : Expr → Type 0
+    ExprFollows x = (context : Context) (names : List Name) → R (of_expr r inside x context names) (of_expr q inside x context names) (kept_expr x)
 
-  abbrev ProductFollows : ProdPart → Type 0
-  ProductFollows p = (context : Context) (names : List Name) → R (of_product r p context names) (of_product q p context names) (kept_product_part p)
+    abbrev ProductFollows : ProdPart → Type 0
+    ProductFollows p = (context : Context) (names : List Name) → R (of_product r inside p context names) (of_product q inside p context names) (kept_product_part p)
 
-  abbrev SumFollows : SumPart → Type 0
-  SumFollows p = (context : Context) (names : List Name) → R (of_sum r p context names) (of_sum q p context names) (kept_sum_part p)
+    abbrev SumFollows : SumPart → Type 0
+    SumFollows p = (context : Context) (names : List Name) → R (of_sum r inside p context names) (of_sum q inside p context names) (kept_sum_part p)
 
-  sums-follow : (ys : List ((p : SumPart) × SumFollows p)) (context : Context) (names : List Name)
-      → R (each r (map (of_sum r) (map (λ y. y.0) ys)) context names) (each q (map (of_sum q) (map (λ y. y.0) ys)) context names) (flat_map (λ ks. ks) (map kept_sum_part (map (λ y. y.0) ys)))
-  sums-follow [] context names = f.nothing
-  sums-follow (y ∷ ys) context names = f.next _ _ _ _ _ _ (y.1 context names) (sums-follow ys context names)
+    sums-follow : (ys : List ((p : SumPart) × SumFollows p)) (context : Context) (names : List Name)
+        → R (each r inside (map (of_sum r inside) (map (λ y. y.0) ys)) context names) (each q inside (map (of_sum q inside) (map (λ y. y.0) ys)) context names) (flat_map (λ ks. ks) (map kept_sum_part (map (λ y. y.0) ys)))
+    sums-follow [] context names = f.nothing
+    sums-follow (y ∷ ys) context names = f.next _ _ _ _ _ _ (y.1 context names) (sums-follow ys context names)
 
-  products-follow : (ys : List ((p : ProdPart) × ProductFollows p)) (context : Context) (names : List Name)
-      → R (each r (map (of_product r) (map (λ y. y.0) ys)) context names) (each q (map (of_product q) (map (λ y. y.0) ys)) context names) (flat_map (λ ks. ks) (map kept_product_part (map (λ y. y.0) ys)))
-  products-follow [] context names = f.nothing
-  products-follow (y ∷ ys) context names = f.next _ _ _ _ _ _ (y.1 context names) (products-follow ys context names)
+    products-follow : (ys : List ((p : ProdPart) × ProductFollows p)) (context : Context) (names : List Name)
+        → R (each r inside (map (of_product r inside) (map (λ y. y.0) ys)) context names) (each q inside (map (of_product q inside) (map (λ y. y.0) ys)) context names) (flat_map (λ ks. ks) (map kept_product_part (map (λ y. y.0) ys)))
+    products-follow [] context names = f.nothing
+    products-follow (y ∷ ys) context names = f.next _ _ _ _ _ _ (y.1 context names) (products-follow ys context names)
 
-  abbrev bare : Expr-F ((x : Expr) × ExprFollows x) ((p : ProdPart) × ProductFollows p) ((p : SumPart) × SumFollows p) → Expr-F Expr ProdPart SumPart
-  bare y = map-Expr _ _ _ _ _ _ (λ x. x.0) (λ x. x.0) (λ x. x.0) y
+    args-follow : (ys : List ((x : Expr) × ExprFollows x)) (context : Context) (names : List Name)
+        → R (each r inside (map (of_expr r inside) (map (λ y. y.0) ys)) context names) (each q inside (map (of_expr q inside) (map (λ y. y.0) ys)) context names) (flat_map (λ ks. ks) (map kept_expr (map (λ y. y.0) ys)))
+    args-follow [] context names = f.nothing
+    args-follow (y ∷ ys) context names = f.next _ _ _ _ _ _ (y.1 context names) (args-follow ys context names)
 
-  layer-follows : (y : Expr-F ((x : Expr) × ExprFollows x) ((p : ProdPart) × ProductFollows p) ((p : SumPart) × SumFollows p)) (context : Context) (names : List Name)
-      → R (of_layer r (map-Expr _ _ _ _ _ _ (of_expr r) (of_product r) (of_sum r) (bare y)) context names) (of_layer q (map-Expr _ _ _ _ _ _ (of_expr q) (of_product q) (of_sum q) (bare y)) context names)
-      (kept_step (map-Expr _ _ _ _ _ _ kept_expr kept_product_part kept_sum_part (bare y)))
-  layer-follows (Expr-F.Lit n) context names = f.skip _ _ _ _ f.nothing
-  layer-follows (Expr-F.One name) context names = f.test _ _ (inl refl)
-  layer-follows (Expr-F.Item name index) context names = f.next _ _ _ _ _ _ (f.test _ _ (inl refl)) (index.1 Index names)
-  layer-follows (Expr-F.Neg at of) context names = f.skip _ _ _ _ (of.1 context names)
-  layer-follows (Expr-F.Sum x rest) context names = f.next _ _ _ _ _ _ (x.1 context names) (sums-follow rest context names)
-  layer-follows (Expr-F.Prod x rest) context names = f.next _ _ _ _ _ _ (x.1 context names) (products-follow rest context names)
+    abbrev bare : Expr-F ((x : Expr) × ExprFollows x) ((p : ProdPart) × ProductFollows p) ((p : SumPart) × SumFollows p) → Expr-F Expr ProdPart SumPart
+    bare y = map-Expr _ _ _ _ _ _ (λ x. x.0) (λ x. x.0) (λ x. x.0) y
 
-  rolled-follows : (y : Expr-F ((x : Expr) × ExprFollows x) ((p : ProdPart) × ProductFollows p) ((p : SumPart) × SumFollows p)) → ExprFollows (roll-Expr (bare y))
-  rolled-follows y context names =
-      along _ _ _ _ _ _ (ap (λ g. g context names) (fold-roll-Expr (Told r) (Told r) (Told r) (of_layer r) (of_product_layer r) (of_sum_layer r) (bare y)))
-      (ap (λ g. g context names) (fold-roll-Expr (Told q) (Told q) (Told q) (of_layer q) (of_product_layer q) (of_sum_layer q) (bare y)))
-      (fold-roll-Expr (List Kept) (List Kept) (List Kept) kept_step kept_product_step kept_sum_step (bare y)) (layer-follows y context names)
+    layer-follows : (y : Expr-F ((x : Expr) × ExprFollows x) ((p : ProdPart) × ProductFollows p) ((p : SumPart) × SumFollows p)) (context : Context) (names : List Name)
+        → R (of_layer r inside (map-Expr _ _ _ _ _ _ (of_expr r inside) (of_product r inside) (of_sum r inside) (bare y)) context names) (of_layer q inside (map-Expr _ _ _ _ _ _ (of_expr q inside) (of_product q inside) (of_sum q inside) (bare y)) context names)
+        (kept_step (map-Expr _ _ _ _ _ _ kept_expr kept_product_part kept_sum_part (bare y)))
+    layer-follows (Expr-F.Lit n) context names = f.skip _ _ _ _ f.nothing
+    layer-follows (Expr-F.One name) context names = f.test _ _ (inl refl)
+    layer-follows (Expr-F.Item name index) context names = f.next _ _ _ _ _ _ (f.test _ _ (inl refl)) (index.1 Index names)
+    layer-follows (Expr-F.Neg at of) context names = f.skip _ _ _ _ (of.1 context names)
+    layer-follows (Expr-F.Sum x rest) context names = f.next _ _ _ _ _ _ (x.1 context names) (sums-follow rest context names)
+    layer-follows (Expr-F.Prod x rest) context names = f.next _ _ _ _ _ _ (x.1 context names) (products-follow rest context names)
+    layer-follows (Expr-F.Call name args) context names =
+        let xs = map (λ (y : (x : Expr) × ExprFollows x). y.0) args in
+        along _ _ _ _ _ _
+        (ap (λ n. r.next (invoked r inside n name context names) (each r inside (map (of_expr r inside) xs) context names)) (length-map xs (of_expr r inside)))
+        (ap (λ n. q.next (invoked q inside n name context names) (each q inside (map (of_expr q inside) xs) context names)) (length-map xs (of_expr q inside)))
+        refl (f.next _ _ _ _ _ _ (f.test _ _ (inl refl)) (args-follow args context names))
 
-  product-follows : (y : ProdPart-F ((x : Expr) × ExprFollows x) ((p : ProdPart) × ProductFollows p) ((p : SumPart) × SumFollows p))
-      → ProductFollows (roll-ProdPart (map-ProdPart _ _ _ _ _ _ (λ x. x.0) (λ x. x.0) (λ x. x.0) y))
-  product-follows y context names =
-      along _ _ _ _ _ _ (ap (λ g. g context names) (fold-roll-ProdPart (Told r) (Told r) (Told r) (of_layer r) (of_product_layer r) (of_sum_layer r) _))
-      (ap (λ g. g context names) (fold-roll-ProdPart (Told q) (Told q) (Told q) (of_layer q) (of_product_layer q) (of_sum_layer q) _))
-      (fold-roll-ProdPart (List Kept) (List Kept) (List Kept) kept_step kept_product_step kept_sum_step _) (f.skip _ _ _ _ (y.of.1 context names))
+    rolled-follows : (y : Expr-F ((x : Expr) × ExprFollows x) ((p : ProdPart) × ProductFollows p) ((p : SumPart) × SumFollows p)) → ExprFollows (roll-Expr (bare y))
+    rolled-follows y context names =
+        along _ _ _ _ _ _ (ap (λ g. g context names) (fold-roll-Expr (Told r inside) (Told r inside) (Told r inside) (of_layer r inside) (of_product_layer r inside) (of_sum_layer r inside) (bare y)))
+        (ap (λ g. g context names) (fold-roll-Expr (Told q inside) (Told q inside) (Told q inside) (of_layer q inside) (of_product_layer q inside) (of_sum_layer q inside) (bare y)))
+        (fold-roll-Expr (List Kept) (List Kept) (List Kept) kept_step kept_product_step kept_sum_step (bare y)) (layer-follows y context names)
 
-  sum-follows : (y : SumPart-F ((x : Expr) × ExprFollows x) ((p : ProdPart) × ProductFollows p) ((p : SumPart) × SumFollows p))
-      → SumFollows (roll-SumPart (map-SumPart _ _ _ _ _ _ (λ x. x.0) (λ x. x.0) (λ x. x.0) y))
-  sum-follows y context names =
-      along _ _ _ _ _ _ (ap (λ g. g context names) (fold-roll-SumPart (Told r) (Told r) (Told r) (of_layer r) (of_product_layer r) (of_sum_layer r) _))
-      (ap (λ g. g context names) (fold-roll-SumPart (Told q) (Told q) (Told q) (of_layer q) (of_product_layer q) (of_sum_layer q) _))
-      (fold-roll-SumPart (List Kept) (List Kept) (List Kept) kept_step kept_product_step kept_sum_step _) (f.skip _ _ _ _ (y.of.1 context names))
+    product-follows : (y : ProdPart-F ((x : Expr) × ExprFollows x) ((p : ProdPart) × ProductFollows p) ((p : SumPart) × SumFollows p))
+        → ProductFollows (roll-ProdPart (map-ProdPart _ _ _ _ _ _ (λ x. x.0) (λ x. x.0) (λ x. x.0) y))
+    product-follows y context names =
+        along _ _ _ _ _ _ (ap (λ g. g context names) (fold-roll-ProdPart (Told r inside) (Told r inside) (Told r inside) (of_layer r inside) (of_product_layer r inside) (of_sum_layer r inside) _))
+        (ap (λ g. g context names) (fold-roll-ProdPart (Told q inside) (Told q inside) (Told q inside) (of_layer q inside) (of_product_layer q inside) (of_sum_layer q inside) _))
+        (fold-roll-ProdPart (List Kept) (List Kept) (List Kept) kept_step kept_product_step kept_sum_step _) (f.skip _ _ _ _ (y.of.1 context names))
 
-  expr-follows : (x : Expr) → ExprFollows x
-  expr-follows = ind-Expr ExprFollows ProductFollows SumFollows
-      (λ x y is. subst (λ z. ExprFollows (roll-Expr z)) is (rolled-follows y))
-      (λ x y is. subst (λ z. ProductFollows (roll-ProdPart z)) is (product-follows y))
-      (λ x y is. subst (λ z. SumFollows (roll-SumPart z)) is (sum-follows y))
+    sum-follows : (y : SumPart-F ((x : Expr) × ExprFollows x) ((p : ProdPart) × ProductFollows p) ((p : SumPart) × SumFollows p))
+        → SumFollows (roll-SumPart (map-SumPart _ _ _ _ _ _ (λ x. x.0) (λ x. x.0) (λ x. x.0) y))
+    sum-follows y context names =
+        along _ _ _ _ _ _ (ap (λ g. g context names) (fold-roll-SumPart (Told r inside) (Told r inside) (Told r inside) (of_layer r inside) (of_product_layer r inside) (of_sum_layer r inside) _))
+        (ap (λ g. g context names) (fold-roll-SumPart (Told q inside) (Told q inside) (Told q inside) (of_layer q inside) (of_product_layer q inside) (of_sum_layer q inside) _))
+        (fold-roll-SumPart (List Kept) (List Kept) (List Kept) kept_step kept_product_step kept_sum_step _) (f.skip _ _ _ _ (y.of.1 context names))
 
-  values-follow : (xs : List Expr) (context : Context) (names : List Name) → R (each r (map (of_expr r) xs) context names) (each q (map (of_expr q) xs) context names) (flat_map kept_expr xs)
-  values-follow [] context names = f.nothing
-  values-follow (x ∷ xs) context names = f.next _ _ _ _ _ _ (expr-follows x context names) (values-follow xs context names)
+    pub expr-follows : (x : Expr) → ExprFollows x
+    expr-follows = ind-Expr ExprFollows ProductFollows SumFollows
+        (λ x y is. subst (λ z. ExprFollows (roll-Expr z)) is (rolled-follows y))
+        (λ x y is. subst (λ z. ProductFollows (roll-ProdPart z)) is (product-follows y))
+        (λ x y is. subst (λ z. SumFollows (roll-SumPart z)) is (sum-follows y))
+
+    values-follow : (xs : List Expr) (context : Context) (names : List Name) → R (each r inside (map (of_expr r inside) xs) context names) (each q inside (map (of_expr q inside) xs) context names) (flat_map kept_expr xs)
+    values-follow [] context names = f.nothing
+    values-follow (x ∷ xs) context names = f.next _ _ _ _ _ _ (expr-follows x context names) (values-follow xs context names)
 
   maybe-follows : (o : Option Expr) (context : Context) (names : List Name) → R (of_maybe r o context names) (of_maybe q o context names) (kept_some kept_expr o)
   maybe-follows None context names = f.nothing
-  maybe-follows (Some x) context names = expr-follows x context names
+  maybe-follows (Some x) context names = expr-follows false x context names
 
   record JudgedFollows (j : Judged r) (k : Judged q) (ks : List Kept) : Type 0 where
     pub told : (names : List Name) → R (j.told names) (k.told names) ks
@@ -121,11 +137,11 @@ module _ {M N : Type 0} (r : Report M) (q : Report N) (R : M → N → List Kept
   stmt-layer-follows : (y : Stmt-F ((s : Stmt) × StmtFollows s))
       → JudgedFollows (stmt_layer r (map-Stmt _ _ (judged r) (bare_stmt y))) (stmt_layer q (map-Stmt _ _ (judged q) (bare_stmt y))) (kept_stmt_step (map-Stmt _ _ kept_stmt (bare_stmt y)))
   stmt-layer-follows (Stmt-F.IntOne at name value) = record {
-    told = λ names. f.skip _ _ _ _ (f.next _ _ _ _ _ _ (f.test _ _ (inl refl)) (expr-follows value IntValue names));
+    told = λ names. f.skip _ _ _ _ (f.next _ _ _ _ _ _ (f.test _ _ (inl refl)) (expr-follows false value IntValue names));
     adds = refl;
   }
   stmt-layer-follows (Stmt-F.IntMany at name len values) = record {
-    told = λ names. f.skip _ _ _ _ (f.next _ _ _ _ _ _ (f.test _ _ (inl refl)) (f.next _ _ _ _ _ _ (f.test _ _ (inr refl)) (values-follow values IntValue names)));
+    told = λ names. f.skip _ _ _ _ (f.next _ _ _ _ _ _ (f.test _ _ (inl refl)) (f.next _ _ _ _ _ _ (f.test _ _ (inr refl)) (values-follow false values IntValue names)));
     adds = refl;
   }
   stmt-layer-follows (Stmt-F.SecretOne at name value) = record {
@@ -137,12 +153,20 @@ module _ {M N : Type 0} (r : Report M) (q : Report N) (R : M → N → List Kept
     adds = refl;
   }
   stmt-layer-follows (Stmt-F.Set name index op at value) = record {
-    told = λ names. f.next _ _ _ _ _ _ (f.test _ _ (inl refl)) (f.next _ _ _ _ _ _ (maybe-follows index Index names) (f.skip _ _ _ _ (expr-follows value _ names)));
+    told = λ names. f.next _ _ _ _ _ _ (f.test _ _ (inl refl)) (f.next _ _ _ _ _ _ (maybe-follows index Index names) (f.skip _ _ _ _ (expr-follows false value _ names)));
     adds = refl;
   }
   stmt-layer-follows (Stmt-F.Loop at name low high body) = record {
-    told = λ names. f.skip _ _ _ _ (f.next _ _ _ _ _ _ (f.test _ _ (inl refl)) (f.next _ _ _ _ _ _ (expr-follows low Bound names)
-        (f.next _ _ _ _ _ _ (expr-follows high Bound names) (stmts-follow body _))));
+    told = λ names. f.skip _ _ _ _ (f.next _ _ _ _ _ _ (f.test _ _ (inl refl)) (f.next _ _ _ _ _ _ (expr-follows false low Bound names)
+        (f.next _ _ _ _ _ _ (expr-follows false high Bound names) (stmts-follow body _))));
+    adds = refl;
+  }
+  stmt-layer-follows (Stmt-F.Choice at test body None) = record {
+    told = λ names. f.skip _ _ _ _ (f.next _ _ _ _ _ _ (expr-follows false test Bound names) (f.next _ _ _ _ _ _ (stmts-follow body names) f.nothing));
+    adds = refl;
+  }
+  stmt-layer-follows (Stmt-F.Choice at test body (Some other)) = record {
+    told = λ names. f.skip _ _ _ _ (f.next _ _ _ _ _ _ (expr-follows false test Bound names) (f.next _ _ _ _ _ _ (stmts-follow body names) (stmts-follow other names)));
     adds = refl;
   }
 
@@ -170,8 +194,20 @@ module _ {M N : Type 0} (r : Report M) (q : Report N) (R : M → N → List Kept
   params-follow slots number (p ∷ ps) names =
       f.next _ _ _ _ _ _ (f.next _ _ _ _ _ _ (f.test _ _ (inl refl)) (length-follows p.len (param_limit slots p.output) names)) (params-follow slots (suc number) ps (names ++ param_name p ∷ []))
 
+  arguments-follow : (number : ℕ) (xs : List Ident) (names : List Name) → R (of_arguments r number xs names) (of_arguments q number xs names) (flat_map kept_ident xs)
+  arguments-follow number [] names = f.nothing
+  arguments-follow number (x ∷ xs) names = f.next _ _ _ _ _ _ (f.test _ _ (inl refl)) (arguments-follow (suc number) xs (names ++ argument_name x ∷ []))
+
+  definitions-follow : (ds : List Def) (names : List Name) → R (of_definitions r ds names) (of_definitions q ds names) (flat_map kept_def ds)
+  definitions-follow [] names = f.nothing
+  definitions-follow (d ∷ ds) names =
+      f.next _ _ _ _ _ _
+      (f.skip _ _ _ _ (f.next _ _ _ _ _ _ (f.test _ _ (inl refl)) (f.next _ _ _ _ _ _ (arguments-follow 0 d.params names) (expr-follows true d.value Anywhere (names ++ map argument_name d.params)))))
+      (definitions-follow ds (names ++ definition_name names d ∷ []))
+
   -- what the two ways tell of a source corresponds, where the relation goes on over what is kept of the function's own name
   pub source-follows : (x : Source) (own : List Kept) → ((y : M) (v : N) (ks : List Kept) → R y v ks → R y v (own ++ ks))
-      → R (of_source r x) (of_source q x) (kept_ident x.params ++ (own ++ (flat_map kept_param x.ports ++ flat_map kept_stmt x.body)))
+      → R (of_source r x) (of_source q x) (kept_ident x.params ++ (flat_map kept_def x.defs ++ (own ++ (flat_map kept_param x.ports ++ flat_map kept_stmt x.body))))
   source-follows x own over =
-      f.next _ _ _ _ _ _ (f.test _ _ (inl refl)) (over _ _ _ (f.next _ _ _ _ _ _ (params-follow _ 0 x.ports []) (block-follows x.body (map param_name x.ports))))
+      let names = definition_names [] x.defs in
+      f.next _ _ _ _ _ _ (f.test _ _ (inl refl)) (f.next _ _ _ _ _ _ (definitions-follow x.defs []) (over _ _ _ (f.next _ _ _ _ _ _ (params-follow _ 0 x.ports names) (block-follows x.body (names ++ map param_name x.ports)))))

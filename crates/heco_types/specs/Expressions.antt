@@ -1,5 +1,5 @@
 -- The sites of expressions.
-use Rattle.std.specs.Prelude.{Bool, true, false, List, [], ◌∷◌}
+use Rattle.std.specs.Prelude.{ℕ, Bool, true, false, List, [], ◌∷◌, length}
 use Rattle.heco_syntax.specs.declared.tree.Ident.{Ident}
 use Rattle.heco_syntax.specs.declared.tree.Expr.{Expr, fold-Expr}
 use Rattle.heco_syntax.specs.declared.tree.Expr.TheOpen.{Expr-F, SumPart-F, ProdPart-F}
@@ -7,11 +7,16 @@ use Rattle.heco_syntax.specs.declared.tree.SumPart.{SumPart, fold-SumPart}
 use Rattle.heco_syntax.specs.declared.tree.ProdPart.{ProdPart, fold-ProdPart}
 use Rattle.heco_types.specs.Names.{Name}
 use Rattle.heco_types.specs.Sites.{Report, site}
-use Rattle.heco_types.specs.Table.{uses}
+use Rattle.heco_types.specs.Table.{uses, calls}
 use Rattle.heco_types.specs.declared.context.Context.{Context}
 use Rattle.heco_types.specs.declared.context.Context.TheVariants.{Index}
 
-module _ {M : Type 0} (report : Report M) where
+-- inside says whether an expression is the value of a definition
+module _ {M : Type 0} (report : Report M) (inside : Bool) where
+  -- a name that is called, with so many arguments
+  abbrev pub invoked : ℕ → Ident → Context → List Name → M
+  invoked count name context names = report.test (site name.at name.text (calls context count inside) names)
+
   -- a name that is used, with an index or without one
   abbrev pub used : Bool → Ident → Context → List Name → M
   used indexed name context names = report.test (site name.at name.text (uses context indexed) names)
@@ -31,6 +36,7 @@ module _ {M : Type 0} (report : Report M) where
   of_layer (Expr-F.Neg at of) context names = of context names
   of_layer (Expr-F.Sum first rest) context names = report.next (first context names) (each rest context names)
   of_layer (Expr-F.Prod first rest) context names = report.next (first context names) (each rest context names)
+  of_layer (Expr-F.Call name args) context names = report.next (invoked (length args) name context names) (each args context names)
 
   abbrev pub of_product_layer : ProdPart-F Told Told Told → Told
   of_product_layer p = p.of

@@ -4,6 +4,7 @@ pub mod Table
 pub mod Sites
 pub mod Expressions
 pub mod Statements
+pub mod Definitions
 pub mod Parameters
 pub mod FirstBroken
 pub mod Shapes

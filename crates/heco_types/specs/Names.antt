@@ -24,6 +24,8 @@ is_secret sort.Output = true
 is_secret sort.Secret = true
 is_secret sort.Int = false
 is_secret sort.Counter = false
+is_secret sort.Argument = false
+is_secret (sort.Definition params depth) = false
 
 abbrev pub is_assignable : Sort → Bool
 is_assignable sort.Input = false
@@ -31,3 +33,19 @@ is_assignable sort.Output = true
 is_assignable sort.Secret = true
 is_assignable sort.Int = true
 is_assignable sort.Counter = false
+is_assignable sort.Argument = false
+is_assignable (sort.Definition params depth) = false
+
+-- a definition has neither index nor value of its own
+abbrev pub is_definition : Sort → Bool
+is_definition (sort.Definition params depth) = true
+is_definition sort = false
+
+abbrev pub params_of : Sort → ℕ
+params_of (sort.Definition params depth) = params
+params_of sort = 0
+
+-- how deep calls go within what is named
+abbrev pub depth_of : Sort → ℕ
+depth_of (sort.Definition params depth) = depth
+depth_of sort = 0

@@ -3,6 +3,7 @@ use Rattle.std.specs.Prelude.{ℕ, suc, Bool, true, false, List, [], ◌∷◌, 
 use Rattle.heco_syntax.specs.declared.tree.Num.{Num}
 use Rattle.heco_syntax.specs.declared.tree.Param.{Param}
 use Rattle.heco_syntax.specs.declared.tree.Source.{Source}
+use Rattle.heco_types.specs.Definitions.{of_definitions, definition_names}
 use Rattle.heco_types.specs.Names.{Name, name_of}
 use Rattle.heco_types.specs.Presets.{names_preset, slots_named}
 use Rattle.heco_types.specs.Sites.{Report, Site, site, all}
@@ -37,10 +38,14 @@ module _ {M : Type 0} (report : Report M) where
   of_params slots number [] names = report.nothing
   of_params slots number (p ∷ ps) names = report.next (of_param slots number p names) (of_params slots (suc number) ps (names ++ param_name p ∷ []))
 
+  -- the function, behind these names
+  abbrev pub of_function : Source → List Name → M
+  of_function x names = report.next (of_params (slots_named x.params.text) 0 x.ports names) (of_block report x.body (names ++ map param_name x.ports))
+
   abbrev pub of_source : Source → M
   of_source x =
       report.next (report.test (site x.params.at x.params.text (preset_word (names_preset x.params.text)) []))
-      (report.next (of_params (slots_named x.params.text) 0 x.ports []) (of_block report x.body (map param_name x.ports)))
+      (report.next (of_definitions report x.defs []) (of_function x (definition_names [] x.defs)))
 
 -- the places of a source at which rules are tried, in text order
 abbrev pub sites : Source → List Site

@@ -1,10 +1,10 @@
 -- Places of the tree with what stands there and the names that are visible there.
-use Rattle.std.specs.Prelude.{◌≡◌, ℕ, true, List, [], ◌∷◌, ◌++◌, Option, Some, None}
+use Rattle.std.specs.Prelude.{◌≡◌, ℕ, max, true, List, [], ◌∷◌, ◌++◌, Option, Some, None}
 use Rattle.std.specs.Option.{option_or}
 use Rattle.heco_lex.specs.declared.place.Place.{Place}
 use Rattle.heco_lex.specs.declared.rule.Rule.{Rule}
 use Rattle.heco_types.specs.Names.{Name, visible}
-use Rattle.heco_types.specs.Table.{Role, is_broken, earliest}
+use Rattle.heco_types.specs.Table.{Role, is_broken, earliest, depth_by}
 use Rattle.heco_types.specs.declared.refusal.TypeErr.{TypeErr}
 use Rattle.heco_types.specs.declared.refusal.TypeErr.TheVariants.{At, Memory}
 
@@ -41,6 +41,10 @@ refusal_at s = refusal s.at (earliest s.role (visible s.names s.text))
 -- the first refusal alone
 abbrev pub first : Report (Option TypeErr)
 first = record { nothing = None; test = refusal_at; next = option_or }
+
+-- the greatest depth of a definition that is called in the value of another
+abbrev pub deepest : Report ℕ
+deepest = record { nothing = 0; test = λ s. depth_by s.role (visible s.names s.text); next = max }
 
 -- the refusal is the one that is found, unless it is want of memory
 abbrev pub Finds : TypeErr → Option TypeErr → Type 0

@@ -42,16 +42,16 @@ module _ {M : Type 0} (report : Report M) where
 
   abbrev pub of_maybe : Option Expr → Context → List Name → M
   of_maybe None context names = report.nothing
-  of_maybe (Some e) context names = of_expr report e context names
+  of_maybe (Some e) context names = of_expr report false e context names
 
   -- "int" name "=" value ";"
   abbrev pub of_int_one : Ident → Expr → List Name → M
-  of_int_one name value names = report.next (declared name names) (of_expr report value IntValue names)
+  of_int_one name value names = report.next (declared name names) (of_expr report false value IntValue names)
 
   -- "int" name "[" len "]" "=" "{" values "}" ";"
   abbrev pub of_int_many : Ident → Num → List Expr → List Name → M
   of_int_many name len values names =
-      report.next (declared name names) (report.next (counted len most (len.value == length values) names) (each report (map (of_expr report) values) IntValue names))
+      report.next (declared name names) (report.next (counted len most (len.value == length values) names) (each report false (map (of_expr report false) values) IntValue names))
 
   -- "secret" name [ "=" value ] ";"
   abbrev pub of_secret_one : Ident → Option Expr → List Name → M
@@ -64,12 +64,12 @@ module _ {M : Type 0} (report : Report M) where
   -- name [ "[" index "]" ] "=" value ";"
   abbrev pub of_set : Ident → Option Expr → Expr → List Name → M
   of_set name index value names =
-      report.next (target (is_some index) name names) (report.next (of_maybe index Index names) (of_expr report value (value_context (visible names name.text)) names))
+      report.next (target (is_some index) name names) (report.next (of_maybe index Index names) (of_expr report false value (value_context (visible names name.text)) names))
 
   -- "for" name "in" low ".." high and what is told of the body, in which the name is visible
   abbrev pub of_loop : Ident → Expr → Expr → (List Name → M) → List Name → M
   of_loop name low high body names =
-      report.next (declared name names) (report.next (of_expr report low Bound names) (report.next (of_expr report high Bound names) (body (names ++ only name sort.Counter false))))
+      report.next (declared name names) (report.next (of_expr report false low Bound names) (report.next (of_expr report false high Bound names) (body (names ++ only name sort.Counter false))))
 
   -- what is told of a statement, by what is visible before it, and what is visible after it as well
   pub record Judged : Type 0 where
@@ -83,6 +83,14 @@ module _ {M : Type 0} (report : Report M) where
   block [] names = report.nothing
   block (j ∷ js) names = report.next (j.told names) (block js (names ++ j.adds))
 
+  abbrev pub of_other : Option (List Judged) → List Name → M
+  of_other None names = report.nothing
+  of_other (Some other) names = block other names
+
+  -- "if" test and what is told of the blocks, each of which has the names before it
+  abbrev pub of_choice : Expr → List Judged → Option (List Judged) → List Name → M
+  of_choice test body other names = report.next (of_expr report false test Bound names) (report.next (block body names) (of_other other names))
+
   abbrev pub stmt_layer : Stmt-F Judged → Judged
   stmt_layer (Stmt-F.IntOne at name value) = judged_as (of_int_one name value) (only name sort.Int false)
   stmt_layer (Stmt-F.IntMany at name len values) = judged_as (of_int_many name len values) (only name sort.Int true)
@@ -90,6 +98,7 @@ module _ {M : Type 0} (report : Report M) where
   stmt_layer (Stmt-F.SecretMany at name len) = judged_as (of_secret_many name len) (only name sort.Secret true)
   stmt_layer (Stmt-F.Set name index op at value) = judged_as (of_set name index value) []
   stmt_layer (Stmt-F.Loop at name low high body) = judged_as (of_loop name low high (block body)) []
+  stmt_layer (Stmt-F.Choice at test body other) = judged_as (of_choice test body other) []
 
   abbrev pub judged : Stmt → Judged
   judged s = fold-Stmt Judged stmt_layer s

@@ -7,12 +7,12 @@ use Rattle.heco_syntax.specs.Wellformed.{IsWellformed}
 use Rattle.heco_syntax.specs.declared.tree.Param.{Param}
 use Rattle.heco_syntax.specs.declared.tree.Source.{Source}
 use Rattle.heco_types.specs.FirstBroken.{BreaksNone}
-use Rattle.heco_types.specs.Names.{visible, is_secret, is_assignable}
+use Rattle.heco_types.specs.Names.{visible, is_secret, is_assignable, is_definition, params_of, depth_of}
 use Rattle.heco_types.specs.Parameters.{of_source, param_limit, sites}
 use Rattle.heco_types.specs.Presets.{slots_named}
 use Rattle.heco_syntax.specs.Ports.{length_of}
 use Rattle.heco_types.specs.Sites.{Site, first}
-use Rattle.heco_types.specs.Table.{Role, preset_word, parameter, declares, targets, uses, counts}
+use Rattle.heco_types.specs.Table.{Role, preset_word, parameter, declares, targets, uses, calls, counts, most_calls}
 use Rattle.heco_types.specs.declared.context.Context.{Context}
 use Rattle.heco_types.specs.declared.context.Context.TheVariants.{Anywhere, Index, Bound, IntValue}
 use Rattle.heco_types.specs.declared.name.Entity.{Entity}
@@ -30,14 +30,22 @@ pub record IsTarget (indexed : Bool) (found : Option Entity) : Type 0 where
   pub entity : Entity
   pub visible : found ≡ Some entity
   pub assignable : is_assignable entity.sort ≡ true
-  pub kind : entity.array ≡ indexed
+  pub kind : (is_definition entity.sort ≡ false) × (entity.array ≡ indexed)
 
 -- a used name is visible, has an index exactly where it is an array, and may stand where it stands
 pub record IsUse (context : Context) (indexed : Bool) (found : Option Entity) : Type 0 where
   pub entity : Entity
   pub visible : found ≡ Some entity
-  pub kind : entity.array ≡ indexed
+  pub kind : (is_definition entity.sort ≡ false) × (entity.array ≡ indexed)
   pub stands : MayStand context entity.sort
+
+-- a called name is a definition with as many parameters as there are arguments, and may be called where it is
+pub record IsCall (count : ℕ) (inside : Bool) (found : Option Entity) : Type 0 where
+  pub entity : Entity
+  pub visible : found ≡ Some entity
+  pub kind : is_definition entity.sort ≡ true
+  pub arity : count ≡ params_of entity.sort
+  pub nesting : inside ≡ true → depth_of entity.sort < most_calls
 
 -- what stands at a place keeps the rules
 abbrev pub IsFine : Role → Option Entity → Type 0
@@ -46,6 +54,7 @@ IsFine (parameter number) found = (found ≡ None) × (number < 256)
 IsFine declares found = found ≡ None
 IsFine (targets indexed) found = IsTarget indexed found
 IsFine (uses context indexed) found = IsUse context indexed found
+IsFine (calls context count inside) found = IsCall count inside found
 IsFine (counts value limit equal) found = (1 ≤ value) × (value ≤ limit) × (equal ≡ true)
 
 abbrev pub IsFineAt : Site → Type 0

@@ -2,6 +2,8 @@
 #![tactic(auto)]
 
 mod context;
+mod definitions;
+mod depths;
 mod expressions;
 mod laws;
 mod name;

@@ -7,6 +7,10 @@ pub enum Sort {
     Int,
     /// The name of a loop.
     Counter,
+    /// A parameter of a definition.
+    Argument,
+    /// A definition with so many parameters, and how many definitions it calls within one another, itself counted.
+    Definition { params: usize, depth: u32 },
 }
 
 /// What a visible name stands for.

@@ -1,11 +1,12 @@
 ghost use Rattle.std.specs.Prelude.{◌≡◌, ◌++◌, ◌∷◌, [], ℕ, ◌≤◌, None, OnOk, IfOk, IfErr, map};
 ghost use Rattle.heco_nums.specs.Presets.{preset_name};
 ghost use Rattle.heco_types.specs.Names.{visible};
-ghost use Rattle.heco_types.specs.Parameters.{of_length, of_param, of_params, of_source, param_limit, param_name, sort_of};
+ghost use Rattle.heco_types.specs.Parameters.{of_length, of_param, of_params, of_function, of_source, param_limit, param_name, sort_of};
 ghost use Rattle.heco_types.specs.Sites.{Finds, first, refusal_at, site};
 ghost use Rattle.heco_types.specs.Presets.{names_preset, slots_named};
 ghost use Rattle.heco_types.specs.Table.{parameter, preset_word};
 
+use crate::definitions::check_definitions;
 use crate::name::{Entity, Sort};
 use crate::refusal::TypeErr;
 use crate::rules::{judge, rule_of_parameter};
@@ -16,7 +17,8 @@ use heco_nums::Preset;
 use heco_syntax::{Ident, Num, Param, Source};
 use std::alloc::Global;
 
-fn check_name(scope: &Scope, number: usize, name: &Ident) -> Result<(), TypeErr>
+/// Judges the name of the parameter with this number, from 0.
+pub fn check_name(scope: &Scope, number: usize, name: &Ident) -> Result<(), TypeErr>
     ensures ok { OnOk result (refusal_at (site name.now.at name.now.text (parameter number) scope.now) ≡ None) }
     ensures absent { OnOk result (visible scope.now name.now.text ≡ None) }
     ensures err { IfErr result (λ e. Finds e (refusal_at (site name.now.at name.now.text (parameter number) scope.now))) }
@@ -101,6 +103,16 @@ fn check_preset(word: &Ident) -> Result<Preset, TypeErr>
     }
 }
 
+// Judges the function behind the definitions.
+fn check_function(alloc: Global, scope: &mut Scope, slots: u32, x: &Source) -> Result<(), TypeErr>
+    requires { slots ≡ slots_named x.now.params.text }
+    ensures ok { OnOk result (of_function first x.now scope.old ≡ None) }
+    ensures err { IfErr result (λ e. Finds e (of_function first x.now scope.old)) }
+{
+    check_params(alloc, scope, slots, x.ports.as_slice())?;
+    check_all(alloc, scope, x.body.as_slice())
+}
+
 /// Judges a source, and gives its preset.
 pub fn check_source(alloc: Global, x: &Source) -> Result<Preset, TypeErr>
     ensures ok { OnOk result (of_source first x.now ≡ None) }
@@ -110,7 +122,7 @@ pub fn check_source(alloc: Global, x: &Source) -> Result<Preset, TypeErr>
 {
     let preset = check_preset(&x.params)?;
     let mut scope = Scope::new(alloc);
-    check_params(alloc, &mut scope, preset.slots, x.ports.as_slice())?;
-    check_all(alloc, &mut scope, x.body.as_slice())?;
+    check_definitions(alloc, &mut scope, x.defs.as_slice())?;
+    check_function(alloc, &mut scope, preset.slots, x)?;
     Ok(preset)
 }

@@ -1,7 +1,7 @@
 ghost use Rattle.std.specs.Prelude.{◌≡◌, None, OnOk, IfErr};
-ghost use Rattle.heco_types.specs.Names.{is_secret, is_assignable};
+ghost use Rattle.heco_types.specs.Names.{is_secret, is_assignable, is_definition};
 ghost use Rattle.heco_types.specs.Sites.{Finds, refusal};
-ghost use Rattle.heco_types.specs.Table.{earliest, parameter, declares, targets, uses, counts};
+ghost use Rattle.heco_types.specs.Table.{earliest, parameter, declares, targets, uses, calls, counts};
 
 use crate::context::Context;
 use crate::name::{Entity, Sort};
@@ -24,7 +24,7 @@ pub fn is_secret(sort: Sort) -> bool
 {
     match sort {
         Sort::Input | Sort::Output | Sort::Secret => true,
-        Sort::Int | Sort::Counter => false,
+        Sort::Int | Sort::Counter | Sort::Argument | Sort::Definition { .. } => false,
     }
 }
 
@@ -33,7 +33,16 @@ fn is_assignable(sort: Sort) -> bool
 {
     match sort {
         Sort::Output | Sort::Secret | Sort::Int => true,
-        Sort::Input | Sort::Counter => false,
+        Sort::Input | Sort::Counter | Sort::Argument | Sort::Definition { .. } => false,
+    }
+}
+
+fn is_definition(sort: Sort) -> bool
+    ensures { result ≡ is_definition sort }
+{
+    match sort {
+        Sort::Definition { .. } => true,
+        _ => false,
     }
 }
 
@@ -70,7 +79,7 @@ pub fn rule_of_target(indexed: bool, found: Option<Entity>) -> Option<Rule>
     if !is_assignable(entity.sort) {
         return Some(Rule::NotAssignable);
     }
-    if entity.array != indexed {
+    if is_definition(entity.sort) || entity.array != indexed {
         return Some(Rule::Kind);
     }
     None
@@ -98,13 +107,39 @@ pub fn rule_of_use(context: Context, indexed: bool, found: Option<Entity>) -> Op
     let Some(entity) = found else {
         return Some(Rule::UnknownName);
     };
-    if entity.array != indexed {
+    if is_definition(entity.sort) || entity.array != indexed {
         return Some(Rule::Kind);
     }
     if is_secret(entity.sort) {
         return rule_of_secret(context);
     }
     None
+}
+
+/// What a call of a name with so many arguments breaks, where `inside` says whether it stands in a definition.
+pub fn rule_of_call(
+    context: Context,
+    count: usize,
+    inside: bool,
+    found: Option<Entity>,
+) -> Option<Rule>
+    ensures { result ≡ earliest (calls context count inside) found }
+{
+    let Some(entity) = found else {
+        return Some(Rule::UnknownName);
+    };
+    match entity.sort {
+        Sort::Definition { params, depth } => {
+            if count != params {
+                return Some(Rule::Length);
+            }
+            if inside && depth >= 8 {
+                return Some(Rule::TooNested);
+            }
+            None
+        }
+        _ => Some(Rule::Kind),
+    }
 }
 
 /// What a length breaks, where `equal` says whether as many values are given.

@@ -1,11 +1,11 @@
 ghost use Rattle.std.specs.Prelude.{◌≡◌, ◌++◌, None, OnOk, IfErr, map, true, false};
-ghost use Rattle.heco_types.specs.Expressions.{each, of_expr};
+ghost use Rattle.heco_types.specs.Expressions.{of_expr};
 ghost use Rattle.heco_types.specs.Names.{visible};
 ghost use Rattle.heco_types.specs.Sites.{Finds, first};
 ghost use Rattle.heco_types.specs.Statements.{declared, target, counted, of_maybe, of_int_one, of_int_many, of_secret_one, of_secret_many, of_set, value_context, only, judged, of_block, added};
 
 use crate::context::Context;
-use crate::expressions::check_expr;
+use crate::expressions::{check_expr, check_values};
 use crate::name::{Entity, Sort};
 use crate::refusal::TypeErr;
 use crate::rules::{is_secret, judge, rule_of_declared, rule_of_length, rule_of_target};
@@ -17,7 +17,8 @@ use std::alloc::Global;
 /// The most elements that an array may have, but for an input.
 pub const MOST: u64 = 4096;
 
-fn check_declared(scope: &Scope, name: &Ident) -> Result<(), TypeErr>
+/// Judges a name that is declared.
+pub fn check_declared(scope: &Scope, name: &Ident) -> Result<(), TypeErr>
     ensures ok { OnOk result (declared first name.now scope.now ≡ None) }
     ensures absent { OnOk result (visible scope.now name.now.text ≡ None) }
     ensures err { IfErr result (λ e. Finds e (declared first name.now scope.now)) }
@@ -48,18 +49,8 @@ fn check_maybe(scope: &Scope, context: Context, x: &Option<Expr>) -> Result<(), 
 {
     match x {
         None => Ok(()),
-        Some(x) => check_expr(scope, context, x),
+        Some(x) => check_expr(scope, false, context, x),
     }
-}
-
-fn check_values(scope: &Scope, values: &[Expr]) -> Result<(), TypeErr>
-    ensures ok { OnOk result (each first (map (of_expr first) values.now) Context.IntValue scope.now ≡ None) }
-    ensures err { IfErr result (λ e. Finds e (each first (map (of_expr first) values.now) Context.IntValue scope.now)) }
-{
-    for x in values {
-        check_expr(scope, Context::IntValue, x)?;
-    }
-    Ok(())
 }
 
 // Where the value of an assignment stands.
@@ -78,8 +69,8 @@ fn value_context(scope: &Scope, name: &Ident) -> Context
     }
 }
 
-// Makes the name of a statement visible.
-fn declare(
+/// Makes a name visible.
+pub fn declare(
     alloc: Global,
     scope: &mut Scope,
     name: &Ident,
@@ -103,7 +94,7 @@ fn check_int_one(
     ensures err { IfErr result (λ e. Finds e (of_int_one first name.now value.now scope.old)) }
 {
     check_declared(scope, name)?;
-    check_expr(scope, Context::IntValue, value)?;
+    check_expr(scope, false, Context::IntValue, value)?;
     declare(alloc, scope, name, Sort::Int, false)?;
     Ok(())
 }
@@ -121,7 +112,7 @@ fn check_int_many(
 {
     check_declared(scope, name)?;
     check_length(scope, len, MOST, len.value == values.len() as u64)?;
-    check_values(scope, values)?;
+    check_values(scope, false, Context::IntValue, values)?;
     declare(alloc, scope, name, Sort::Int, true)?;
     Ok(())
 }
@@ -164,7 +155,7 @@ fn check_set(scope: &Scope, name: &Ident, index: &Option<Expr>, value: &Expr) ->
 {
     check_target(scope, index.is_some(), name)?;
     check_maybe(scope, Context::Index, index)?;
-    check_expr(scope, value_context(scope, name), value)
+    check_expr(scope, false, value_context(scope, name), value)
 }
 
 /// Judges a statement, and makes visible what it declares.
@@ -199,15 +190,41 @@ fn check_stmt(alloc: Global, scope: &mut Scope, s: &Stmt) -> Result<(), TypeErr>
             body,
         } => {
             check_declared(scope, name)?;
-            check_expr(scope, Context::Bound, low)?;
-            check_expr(scope, Context::Bound, high)?;
+            check_expr(scope, false, Context::Bound, low)?;
+            check_expr(scope, false, Context::Bound, high)?;
             let count = scope.len();
             declare(alloc, scope, name, Sort::Counter, false)?;
             check_all(alloc, scope, body.as_slice())?;
             scope.truncate(count);
             Ok(())
         }
+        Stmt::Choice {
+            at: _,
+            cond,
+            yes,
+            no,
+        } => {
+            check_expr(scope, false, Context::Bound, cond)?;
+            check_block(alloc, scope, yes.as_slice())?;
+            match no {
+                None => Ok(()),
+                Some(no) => check_block(alloc, scope, no.as_slice()),
+            }
+        }
     }
+}
+
+// Judges a block, whose names go out with it.
+#[cycle(check_all)]
+fn check_block(alloc: Global, scope: &mut Scope, body: &[Stmt]) -> Result<(), TypeErr>
+    ensures ok { OnOk result (of_block first body.now scope.old ≡ None) }
+    ensures same { OnOk result (scope.new ≡ scope.old) }
+    ensures err { IfErr result (λ e. Finds e (of_block first body.now scope.old)) }
+{
+    let count = scope.len();
+    check_all(alloc, scope, body)?;
+    scope.truncate(count);
+    Ok(())
 }
 
 /// Judges statements in order, and makes visible what they declare.

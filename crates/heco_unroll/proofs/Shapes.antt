@@ -1,5 +1,5 @@
 -- The inputs and outputs of a typed source, and its terms.
-use Rattle.std.proofs.Common.{◌≡◌, ◌∙◌, refl, sym, ap, subst, ℕ, zero, suc, ◌+◌, ◌*◌, ◌^◌, ◌<◌, ◌≤◌, Bool, true, false, not, cond, List, [], ◌∷◌, map, length, length-append, get_or, Some, None, Ok, Err, arith}
+use Rattle.std.proofs.Common.{◌≡◌, ◌∙◌, refl, sym, ap, subst, ℕ, zero, suc, ◌+◌, ◌*◌, ◌^◌, ◌<◌, ◌≤◌, Bool, true, false, not, cond, List, [], ◌∷◌, ◌++◌, map, length, length-append, get_or, Some, None, Ok, Err, arith}
 use Rattle.std.specs.List.{All, filter, flat_map, sum_by}
 use Rattle.std.specs.Str.{bytes_eq}
 use Rattle.std.proofs.lemmas.List.{length-map}
@@ -12,6 +12,7 @@ use Rattle.heco_nums.specs.declared.shape.Shape.{Shape}
 use Rattle.heco_syntax.specs.Ports.{length_of}
 use Rattle.heco_syntax.specs.declared.tree.Param.{Param}
 use Rattle.heco_syntax.specs.declared.tree.Source.{Source}
+use Rattle.heco_types.specs.Definitions.{definition_names, of_definitions}
 use Rattle.heco_types.specs.Names.{Name, visible}
 use Rattle.heco_types.specs.Parameters.{param_name, of_params}
 use Rattle.heco_types.specs.Presets.{slots_named, names_preset}
@@ -85,9 +86,20 @@ all_seen [] q k d l e = absurd (omega arith)
 all_seen (p ∷ ports) q zero d l e = subst (λ r. IsSeen (map param_name (p ∷ ports)) r.name.text) (sym e) (seen_first (param_name p) (map param_name ports))
 all_seen (p ∷ ports) q (suc k) d l e = seen_behind (param_name p) (map param_name ports) q.name.text (all_seen ports q k d (omega arith) e)
 
-none_in_source : (x : Source) → IsTyped x → block first (map (judged first) x.body) (map param_name x.ports) ≡ None
+-- behind others that are visible as well
+seen_further : (more names : List Name) (text : List ℕ) → IsSeen names text → IsSeen (more ++ names) text
+seen_further [] names text h = h
+seen_further (n ∷ more) names text h = seen_behind n (more ++ names) text (seen_further more names text h)
+
+-- what is visible in the body of a source
+abbrev body_names : Source → List Name
+body_names x = definition_names [] x.defs ++ map param_name x.ports
+
+none_in_source : (x : Source) → IsTyped x → block first (map (judged first) x.body) (body_names x) ≡ None
 none_in_source x h =
-    nothing-right (of_params first (slots_named x.params.text) 0 x.ports []) _ (nothing-right (first.test (site x.params.at x.params.text (preset_word (names_preset x.params.text)) [])) _ h.found)
+    let word = first.test (site x.params.at x.params.text (preset_word (names_preset x.params.text)) []) in
+    nothing-right (of_params first (slots_named x.params.text) 0 x.ports (definition_names [] x.defs)) _
+    (nothing-right (of_definitions first x.defs []) _ (nothing-right word _ h.found))
 
 abbrev started : Progress (Unit {0})
 started = record { steps = 0; store = tt }
@@ -100,7 +112,8 @@ Given ports (Err e) = Unit {0}
 pub outputs_have_their_lengths : OutputsHaveTheirLengths
 outputs_have_their_lengths t source h =
     read (execute (storeless {S = Unit {0}} (terms t)) source (elements 0 (input_lengths source.ports)) started)
-    (execute_gives (storeless {S = Unit {0}} (terms t)) source (elements 0 (input_lengths source.ports)) h.parameters.distinct (all_seen source.ports) (none_in_source source h) started)
+    (execute_gives (storeless {S = Unit {0}} (terms t)) source (elements 0 (input_lengths source.ports)) (body_names source) h.parameters.distinct
+    (λ q k d l e. seen_further (definition_names [] source.defs) (map param_name source.ports) q.name.text (all_seen source.ports q k d l e)) (none_in_source source h) started)
   where
     read : (o : Outcome (List (List ScalarTerm) × Progress (Unit {0}))) → Given source.ports o → HaveLengths (shapes_of true source.ports) (after o (λ r. Ok r.0))
     read (Ok r) g = g ∙ sym (output_lengths_are source.ports)

@@ -63,6 +63,10 @@ places [] = []
 places (Known c ∷ hs) = places hs
 places (At p ∷ hs) = p ∷ places hs
 
+-- the vectors of the places among homes, in order: the written forms
+abbrev pub vectors_of : List Home → List VectorTerm
+vectors_of homes = map (λ p. p.vector) (places homes)
+
 -- the sum of what is known
 abbrev pub constant : List Home → ℕ
 constant [] = 0

@@ -1,7 +1,7 @@
 use Rattle.std.proofs.Common.{◌≡◌, ◌++◌, ◌∙◌, sym, ap, subst}
 use Rattle.std.specs.List.{flat_map}
-use Rattle.heco_print.specs.Spelling.{spelled, wrapped, spelled_sum_part, spelled_product_part}
-use Rattle.heco_print.proofs.Prints.{on_ok, sum_tokens, product_tokens}
+use Rattle.heco_print.specs.Spelling.{spelled, expression, separated, parens, wrapped, spelled_sum_part, spelled_product_part}
+use Rattle.heco_print.proofs.Prints.{on_ok, sum_tokens, product_tokens, call_tokens}
 use Rattle.heco_print.proofs.expression.+spelling.Goals as goal
 
 pub spell-returns-in_ok-spell_within-in-Sum : goal.spell-returns-in_ok-spell_within-in-Sum
@@ -21,3 +21,12 @@ spell-returns-in_ok-spell_within-in-Prod t c =
     (c.in_ok-spell_within-in-Prod.ensures ∙ ap (λ v. c.args.out.now ++ wrapped 0 (spelled v)) c.get-in-Prod.ensures)
     (h ∙ ap (λ v. c.spell_within-in-Prod.new.out ++ flat_map spelled_product_part v) c.as_slice-in-Prod.ensures)))
     c.spell_product_parts.ensures
+
+pub spell-returns-in_ok-put_word-in-Call : goal.spell-returns-in_ok-put_word-in-Call
+spell-returns-in_ok-put_word-in-Call t c =
+    on_ok c.spell_arguments.result
+    (λ h. subst (λ v. c.spell_arguments.new.out ≡ c.args.out.now ++ (spelled v).tokens) (sym c.in-Call.is)
+    (call_tokens c.args.out.now c.put_word-in-Call.new.out c.spell_arguments.new.out c.in-Call.name c.in-Call.args
+    c.in_ok-put_word-in-Call.ensures
+    (h ∙ ap (λ v. c.put_word-in-Call.new.out ++ parens (separated expression v)) c.as_slice-in-Call.ensures)))
+    c.spell_arguments.ensures
