@@ -1,7 +1,7 @@
 #!/usr/bin/env bash
 # A round trip on the circuit whose output is its input: material drawn from a seed, the keys, the encrypted input and
-# what it decrypts to. No command runs a circuit yet; here the encrypted input is the result, under the first four
-# bytes of a file of results. Prints `y = 5`. HECO may name another program than ./heco.
+# what it decrypts to. No circuit is run: the encrypted input is the result, under the first four bytes of
+# a file of results. Prints `y = 5`. HECO may name another program than ./heco.
 set -eu
 cd "$(dirname "${BASH_SOURCE[0]}")"
 heco=${HECO:-../heco}

@@ -22,7 +22,7 @@ done <answers.txt
 # texts that are too long to be kept here
 long=$(mktemp -d) || exit 1
 trap 'rm -rf "$long"' EXIT
-head -c 65537 /dev/zero | tr '\0' ' ' >"$long/source"
+head -c 1048577 /dev/zero | tr '\0' ' ' >"$long/source"
 head -c 4194305 /dev/zero | tr '\0' ' ' >"$long/inputs"
 try "plain $long/source linear.in" "1|$long/source: SourceLong"
 try "plain linear.he $long/inputs" "3|$long/inputs: InputLong"
