@@ -1,2 +1,3 @@
+pub mod Amounts
 pub mod PresetFacts
 pub mod Powers
