@@ -1,5 +1,5 @@
 -- Facts of each token of a list, and what the tokens of a text are.
-use Rattle.std.proofs.Common.{◌≡◌, ◌∙◌, sym, ap, subst, refl, ℕ, ◌^◌, ◌<◌, List, [], ◌∷◌, ◌++◌, Some, arith}
+use Rattle.std.proofs.Common.{◌≡◌, ◌∙◌, sym, ap, subst, refl, ℕ, ◌^◌, ◌<◌, List, [], ◌∷◌, ◌++◌, Some}
 use Rattle.heco_lex.specs.Kinds.{kind_of}
 use Rattle.heco_lex.specs.Splits.{AreSpans, slice_of}
 use Rattle.heco_lex.specs.declared.token.Token.{Token}
@@ -51,8 +51,7 @@ pub lexeme_fits : (text : List ℕ) (t : Token) → kind_of (slice_of text t) �
 lexeme_fits text t h = record {
   word = λ e. ap (λ v. kind_of (text_of v (slice_of text t))) e ∙ h ∙ ap (λ v. Some v) e;
   number = λ e.
-      (let d = number_digits (slice_of text t) (h ∙ ap (λ v. Some v) e) in
-      subst (λ v. value_of v (slice_of text t) < 10 ^ 10) (sym e) (below 0 (slice_of text t) 10 d.count (omega arith) d.all));
+      subst (λ v. value_of v (slice_of text t) < 10 ^ 10) (sym e) (below (slice_of text t) (number_digits (slice_of text t) (h ∙ ap (λ v. Some v) e)));
 }
 
 pub lexemes_fit : (text : List ℕ) (at : ℕ) (ts : List Token) → AreSpans text at ts → Each Fits (lexemes_of text ts)

@@ -1,16 +1,12 @@
 -- Lexemes: tokens with what a tree keeps of them.
-use Rattle.std.specs.Prelude.{ℕ, ◌+◌, ◌-◌, ◌*◌, List, [], ◌∷◌, map}
+use Rattle.std.specs.Prelude.{ℕ, List, [], map}
+use Rattle.std.specs.Str.Parse.{digits_value}
 use Rattle.heco_lex.specs.Places.{place_in}
 use Rattle.heco_lex.specs.Splits.{slice_of}
 use Rattle.heco_lex.specs.declared.token.Token.{Token}
 use Rattle.heco_lex.specs.declared.token.TokenKind.{TokenKind}
 use Rattle.heco_lex.specs.declared.token.TokenKind.TheVariants as k
 use Rattle.heco_syntax.specs.declared.lexeme.Lexeme.{Lexeme}
-
--- the number that the digits spell, behind others
-abbrev pub decimal : ℕ → List ℕ → ℕ
-decimal n [] = n
-decimal n (c ∷ cs) = decimal (10 * n + (c - 48)) cs
 
 -- the text of a word
 abbrev pub text_of : TokenKind → List ℕ → List ℕ
@@ -19,7 +15,7 @@ text_of kind bytes = []
 
 -- the value of a number
 abbrev pub value_of : TokenKind → List ℕ → ℕ
-value_of k.Number bytes = decimal 0 bytes
+value_of k.Number bytes = digits_value 10 bytes
 value_of kind bytes = 0
 
 abbrev pub lexeme_of : List ℕ → Token → Lexeme

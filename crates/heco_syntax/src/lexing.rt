@@ -1,9 +1,10 @@
 ghost use Rattle.std.specs.Prelude.{◌≡◌, ◌+◌, ◌-◌, ◌≤◌, ◌<◌, ◌^◌, length, IfOk, count_by, ◌==◌, true, Some};
 ghost use Rattle.std.specs.List.{list_all};
+ghost use Rattle.std.specs.Str.Parse.{digits_value};
 ghost use Rattle.heco_lex.specs.Kinds.{is_digit, kind_of};
 ghost use Rattle.heco_lex.specs.Places.{since_line_end, place_in};
 ghost use Rattle.heco_lex.specs.Splits.{AreSpans, slice_of};
-ghost use Rattle.heco_syntax.specs.Lexemes.{decimal, text_of, value_of, lexeme_of, lexemes_of};
+ghost use Rattle.heco_syntax.specs.Lexemes.{text_of, value_of, lexeme_of, lexemes_of};
 
 use crate::lexeme::Lexeme;
 use heco_lex::{Place, Token, TokenKind};
@@ -34,7 +35,7 @@ fn place_behind(at: Place, bytes: &[u8]) -> Place
 fn decimal(digits: &[u8]) -> u64
     requires count { length digits.now ≤ 10 }
     requires digits { list_all is_digit digits.now ≡ true }
-    ensures { result ≡ decimal 0 digits.now }
+    ensures { result ≡ digits_value 10 digits.now }
 {
     let mut value = 0;
     for digit in digits {

@@ -1,6 +1,6 @@
 use Rattle.std.proofs.Common.{◌≡◌, ◌<◌, ◌^◌, drop}
-use Rattle.heco_syntax.specs.Lexemes.{decimal}
+use Rattle.std.specs.Str.Parse.{digits_value, digits_value_after}
 use Rattle.heco_syntax.proofs.lexing.decimal.Given as goal
 
 abbrev pub invariant-loop-digit : goal.invariant-loop-digit
-invariant-loop-digit l = record { rest : decimal l.value (drop l.digit-index l.digits) ≡ decimal 0 l.digits; small : l.value < 10 ^ l.digit-index }
+invariant-loop-digit l = record { rest : digits_value_after 10 l.value (drop l.digit-index l.digits) ≡ digits_value 10 l.digits; small : l.value < 10 ^ l.digit-index }
