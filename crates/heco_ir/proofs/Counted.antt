@@ -1,10 +1,11 @@
 use Rattle.std.proofs.Common.{◌≡◌, ℕ, zero, suc, ◌-◌, List, [], ◌∷◌, refl, arith, length, true, ap, ◌∙◌, sym, get_or, map, nat_lt, inl, inr}
 use Rattle.std.specs.Prelude.{Contains}
 use Rattle.std.specs.List.{list_any}
+use Rattle.heco_nums.proofs.Amounts.{contains_passing, passing_rising}
 use Rattle.heco_written.specs.VectorTerm.{VectorTerm, Input}
 use Rattle.heco_written.specs.Cost.{subterms, all_subterms}
 use Rattle.heco_written.specs.Needs.{turns_by, needs_turn}
-use Rattle.heco_written.proofs.Members.{Member, Distinct, place_of_member, distinct_places, member-get_or, member-append}
+use Rattle.heco_written.proofs.Members.{Member, Distinct, place_of_member, distinct_places, member-get_or, member-append, contains-member}
 use Rattle.heco_written.proofs.Parts.{IsOperand, all_subterms-closed, all_subterms-itself}
 use Rattle.heco_written.proofs.Agreement.{gates-cost, late_gates-late_cost, products-needed, turns-needed}
 use Rattle.heco_ir.specs.declared.vector.VNode.{VNode}
@@ -15,7 +16,6 @@ use Rattle.heco_ir.specs.Gates.{Agrees}
 use Rattle.heco_ir.specs.Terms.{vector_term_over, vector_terms, terms_at}
 use Rattle.heco_ir.specs.Vectors.{vector_operands}
 use Rattle.heco_ir.proofs.Built.{length-built, right, slice_get_below}
-use Rattle.heco_ir.proofs.Amounts.{contains_member, contains_passing, passing_rising}
 use Rattle.heco_ir.proofs.Unique.{vector_terms-at, one_place, covered, below_one}
 
 member-map : {X Y : Type 0} (f : X → Y) (x : X) (xs : List X) → Member x xs → Member (f x) (map f xs)
@@ -45,13 +45,13 @@ module _ (ns : List VNode) (roots : List ℕ) (earlier : all_earlier vector_oper
   -- what roots use is within their terms
   pub used_within : (i : ℕ) → IsUsed vector_operands ns roots i → Member (get_or (vector_terms ns) i (Input 0)) (all_subterms (terms_at ns roots))
   used_within i (root i2 c) =
-      all_subterms-itself _ _ (member-map (λ r. get_or (vector_terms ns) r (Input 0)) i2 roots (contains_member roots i2 c))
+      all_subterms-itself _ _ (member-map (λ r. get_or (vector_terms ns) r (Input 0)) i2 roots (contains-member i2 roots c))
   used_within i (operand i2 j n u e c) =
       let (l, f) = slice_get_below ns j n n e in
       let here : get_or (vector_terms ns) j (Input 0) ≡ vector_term_over (vector_terms ns) n =
       vector_terms-at ns j n earlier l ∙ ap (vector_term_over (vector_terms ns)) f in
       all_subterms-closed _ (get_or (vector_terms ns) j (Input 0)) (terms_at ns roots)
-      (rw here (operand_term (vector_terms ns) n i2 (contains_member (vector_operands n) i2 c)))
+      (rw here (operand_term (vector_terms ns) n i2 (contains-member i2 (vector_operands n) c)))
       (used_within j u)
 
   root_terms_here : all_below (length ns) roots ≡ true → EachOnce ns

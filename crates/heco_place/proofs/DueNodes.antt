@@ -6,7 +6,7 @@ use Rattle.std.proofs.lemmas.Bool.{eq-eqb}
 use Rattle.heco_written.specs.VectorTerm.{VectorTerm, Input, Negated, Added, Multiplied, Scaled, Shifted, Turned}
 use Rattle.heco_written.specs.Cost.{subterms, is_long, is_due}
 use Rattle.heco_written.specs.Needs.{is_product}
-use Rattle.heco_written.proofs.Members.{Member, member-append_left, member-append_right}
+use Rattle.heco_written.proofs.Members.{Member, member-append_left, member-append_right, contains-member}
 use Rattle.heco_written.proofs.Parts.{subterms-itself}
 use Rattle.heco_ir.specs.declared.vector.VNode.{VNode}
 use Rattle.heco_ir.specs.declared.vector.VNode.TheVariants.{Input as InputNode, Neg, Add, Mul, Scale, Shift, Turn}
@@ -14,7 +14,6 @@ use Rattle.heco_ir.specs.Values.{all_below, all_earlier}
 use Rattle.heco_ir.specs.Vectors.{vector_operands}
 use Rattle.heco_ir.specs.Used.{EachOnce, IsUsed, root, operand, AllUsed}
 use Rattle.heco_ir.specs.Terms.{vector_terms, terms_at}
-use Rattle.heco_ir.proofs.Amounts.{contains_member}
 use Rattle.heco_ir.proofs.Unique.{covered}
 use Rattle.heco_place.specs.Dues.{takes, is_taken}
 use Rattle.heco_place.specs.Kinds.{is_relinearised}
@@ -98,8 +97,8 @@ module _ (ns : List VNode) (roots : List ℕ) (earlier : all_earlier vector_oper
 
   -- from a long node up to where it is turned, multiplied or a root
   found : (i : ℕ) → IsUsed vector_operands ns roots i → i < length ns → is_long (term i) ≡ true → SomeDue
-  found i (root i2 c) l h = taken_due i2 l h (or_right (list_any (takes i2) ns) _ (any_member i2 roots (contains_member roots i2 c)))
-  found i (operand i2 j n u e c) l h = up n e (contains_member (vector_operands n) i2 c) (found j u (is_node ns earlier j n e))
+  found i (root i2 c) l h = taken_due i2 l h (or_right (list_any (takes i2) ns) _ (any_member i2 roots (contains-member i2 roots c)))
+  found i (operand i2 j n u e c) l h = up n e (contains-member i2 (vector_operands n) c) (found j u (is_node ns earlier j n e))
     where
       taken_by : (m : VNode) → slice_get ns j ≡ Some m → takes i2 m ≡ true → SomeDue
       taken_by m f t = taken_due i2 l h (or_left _ _ (any_in (takes i2) ns j m f t))

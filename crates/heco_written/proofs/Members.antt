@@ -1,4 +1,5 @@
 use Rattle.std.proofs.Common.{◌≡◌, ℕ, zero, suc, ◌+◌, ◌<◌, ◌≤◌, List, [], ◌∷◌, ◌++◌, refl, arith, length, ap, ◌∙◌, sym, get_or, ◌⊎◌, inl, inr, subst}
+use Rattle.std.specs.Prelude.{Contains}
 
 -- x stands in the list
 abbrev pub Member : {X : Type 0} → X → List X → Type 0
@@ -33,6 +34,11 @@ module _ {X : Type 0} where
   place_of_member x d [] h = elim h [ ]
   place_of_member x d (y ∷ xs) (inl e) = (0, omega arith, sym e)
   place_of_member x d (y ∷ xs) (inr h) = let (i, l, e) = place_of_member x d xs h in (suc i, omega arith, e)
+
+  pub contains-member : (x : X) (xs : List X) → Contains xs x → Member x xs
+  contains-member x [] (k, l, e) = elim l [ ]
+  contains-member x (y ∷ xs) (zero, l, e) = inl (sym e)
+  contains-member x (y ∷ xs) (suc k, l, e) = inr (contains-member x xs (k, omega arith, e))
 
   -- the list without one member
   abbrev without : (x : X) (xs : List X) → Member x xs → List X
