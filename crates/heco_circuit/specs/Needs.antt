@@ -1,6 +1,6 @@
 -- The switch keys that a circuit needs.
-use Rattle.std.specs.Prelude.{ℕ, zero, suc, ◌+◌, ◌-◌, Bool, true, false, ◌==◌, List, [], ◌∷◌, length, if◌then◌else◌}
-use Rattle.std.specs.List.{list_any}
+use Rattle.std.specs.Prelude.{ℕ, ◌+◌, ◌-◌, Bool, true, false, ◌==◌, List, length, filter, if◌then◌else◌}
+use Rattle.std.specs.List.{list_any, range_with_len}
 use Rattle.heco_nums.specs.Presets.{slots_of}
 use Rattle.heco_circuit.specs.declared.gate.Gate.{Gate}
 use Rattle.heco_circuit.specs.declared.gate.Gate.TheVariants.{Relin, Turn}
@@ -14,17 +14,12 @@ abbrev pub turns_by : ℕ → Gate → Bool
 turns_by amount (Turn r a) = r == amount
 turns_by amount g = false
 
--- the amounts by which a gate turns, of so many from this one on
-abbrev pub occurring : List Gate → ℕ → ℕ → List ℕ
-occurring gates amount zero = []
-occurring gates amount (suc n) = if list_any (turns_by amount) gates then amount ∷ occurring gates (amount + 1) n else occurring gates (amount + 1) n
-
 abbrev pub needs_relin : Plan → Bool
 needs_relin p = list_any is_relin p.gates
 
 -- the amounts from 1 to N - 1 by which a gate turns
 abbrev pub needed_turns : Plan → List ℕ
-needed_turns p = occurring p.gates 1 (slots_of p.preset - 1)
+needed_turns p = filter (λ r. list_any (turns_by r) p.gates) (range_with_len 1 (slots_of p.preset - 1))
 
 -- how many switch keys the circuit needs: one to relinearise, and one for each amount of a turn
 abbrev pub needed_keys : Plan → ℕ

@@ -1,6 +1,6 @@
-ghost use Rattle.std.specs.Prelude.{◌≡◌, ◌≤◌, ◌<◌, ◌-◌, ◌∷◌, ◌++◌, ◌||◌, ℕ, false, [], IfOk, OnOk, length, if◌then◌else◌};
-ghost use Rattle.std.specs.List.{list_any, slice_index_or};
-ghost use Rattle.heco_circuit.specs.Needs.{is_relin, turns_by, occurring, needs_relin, needed_turns};
+ghost use Rattle.std.specs.Prelude.{◌≡◌, ◌≤◌, ◌<◌, ◌-◌, ◌∷◌, ◌++◌, ◌||◌, ℕ, false, [], IfOk, OnOk, filter, length, if◌then◌else◌};
+ghost use Rattle.std.specs.List.{list_any, range_with_len, slice_index_or};
+ghost use Rattle.heco_circuit.specs.Needs.{is_relin, turns_by, needs_relin, needed_turns};
 
 use crate::circuit::Circuit;
 use crate::gate::Gate;
@@ -66,7 +66,7 @@ fn push_where(turns: &mut List<u16>, amount: u16, is_seen: bool) -> Result<(), M
 fn amounts(alloc: Global, gates: &[Gate], slots: u16) -> Result<List<u16>, Memory>
     requires low { 1 ≤ slots }
     requires high { slots ≤ 512 }
-    ensures { IfOk result (λ turns. turns ≡ occurring gates.now 1 (slots - 1)) }
+    ensures { IfOk result (λ turns. turns ≡ filter (λ r. list_any (turns_by r) gates.now) (range_with_len 1 (slots - 1))) }
 {
     let seen = marks(gates);
     let mut turns = List::new(alloc);
