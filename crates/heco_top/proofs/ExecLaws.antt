@@ -14,9 +14,9 @@ use Rattle.heco_jobs.specs.Words.{are_distinct}
 use Rattle.heco_jobs.specs.declared.outcome.Outcome.{Outcome}
 use Rattle.heco_jobs.specs.declared.outcome.Outcome.TheVariants.{Ok as Fine, Refused, ReadFault, WriteFault, Memory}
 use Rattle.heco_top.specs.Answers.{DoneFor, ExecutedFor}
-use Rattle.heco_top.specs.Commands.{command_of, plain_of, compile_of, show_of, draw_of, keys_of, encrypt_of, run_of, decrypt_of, exec_of}
+use Rattle.heco_top.specs.Commands.{command_of, plain_of, compile_of, show_of, draw_of, keys_of, encrypt_of, run_of, decrypt_of, exec_of, sample_of}
 use Rattle.heco_top.specs.declared.command.Command.{Command}
-use Rattle.heco_top.specs.declared.command.Command.TheVariants.{Plain, Compile, Show, Draw, Keys, Encrypt, Run, Decrypt, Exec}
+use Rattle.heco_top.specs.declared.command.Command.TheVariants.{Plain, Compile, Show, Draw, Keys, Encrypt, Run, Decrypt, Exec, Sample}
 use Rattle.heco_top.specs.Seeds.{seed_of}
 
 abbrev pub is_exec : Option Command → Bool
@@ -66,6 +66,15 @@ not_decrypt : (ws : List (List ℕ)) → is_exec (decrypt_of ws) ≡ false
 not_decrypt (a ∷ b ∷ c ∷ []) = not_where (are_distinct (a ∷ b ∷ c ∷ [])) Decrypt refl
 not_decrypt ws = refl
 
+seed_alone : (seed : Option ℕ) → is_exec (option_map (λ n. Sample n) seed) ≡ false
+seed_alone (Some n) = refl
+seed_alone None = refl
+
+not_sample : (b : Bool) (ws : List (List ℕ)) → is_exec (if b then sample_of ws else None) ≡ false
+not_sample true (s ∷ []) = seed_alone (seed_of s)
+not_sample true ws = refl
+not_sample false ws = refl
+
 -- ---- and its words differ
 
 -- nine words that differ ask for it
@@ -87,15 +96,16 @@ passed : (b : Bool) (row more : Option Command) → is_exec row ≡ false → is
 passed true row more other e = absurd (let no : ⊥ = cc in no)
 passed false row more other e = e
 
-own : (b : Bool) (row : Option Command) → is_exec (if b then row else None) ≡ true → is_exec row ≡ true
-own true row e = e
-own false row e = absurd (let no : ⊥ = cc in no)
+own : (b : Bool) (row more : Option Command) → is_exec more ≡ false → is_exec (if b then row else more) ≡ true → is_exec row ≡ true
+own true row more other e = e
+own false row more other e = absurd (let no : ⊥ = cc in no)
 
 pub words_apart : (words : List (List ℕ)) → is_exec (command_of words) ≡ true → AreApart words (5 ∷ 6 ∷ 7 ∷ 8 ∷ 9 ∷ [])
 words_apart [] e = absurd (let no : ⊥ = cc in no)
 words_apart (c ∷ ws) e =
     let test = λ (name : List ℕ). bytes_eq c name in
-    let from9 : Option Command = if test (codes "exec") then exec_of ws else None in
+    let from10 : Option Command = if test (codes "sample") then sample_of ws else None in
+    let from9 : Option Command = if test (codes "exec") then exec_of ws else from10 in
     let from8 : Option Command = if test (codes "decrypt") then decrypt_of ws else from9 in
     let from7 : Option Command = if test (codes "run") then run_of ws else from8 in
     let from6 : Option Command = if test (codes "encrypt") then encrypt_of ws else from7 in
@@ -111,7 +121,7 @@ words_apart (c ∷ ws) e =
     let e7 = passed (test (codes "encrypt")) (encrypt_of ws) from7 (not_encrypt ws) e6 in
     let e8 = passed (test (codes "run")) (run_of ws) from8 (not_run ws) e7 in
     let e9 = passed (test (codes "decrypt")) (decrypt_of ws) from9 (not_decrypt ws) e8 in
-    row_apart c ws (own (test (codes "exec")) (exec_of ws) e9)
+    row_apart c ws (own (test (codes "exec")) (exec_of ws) from10 (not_sample (test (codes "sample")) ws) e9)
 
 -- ---- the headline
 

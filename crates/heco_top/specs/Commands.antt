@@ -7,10 +7,11 @@ use Rattle.heco_jobs.specs.Jobs.{Job}
 use Rattle.heco_jobs.specs.Plans.{Plan}
 use Rattle.heco_jobs.specs.Words.{are_distinct}
 use Rattle.heco_exec.specs.ExecTask.{exec_plan, exec_job}
+use Rattle.heco_sample.specs.SampleTask.{sample_plan, sample_job}
 use Rattle.heco_tasks.specs.CircuitTasks.{show_plan, draw_plan, keys_plan, encrypt_plan, run_plan, decrypt_plan, show_job, draw_job, keys_job, encrypt_job, run_job, decrypt_job}
 use Rattle.heco_tasks.specs.SourceTasks.{plain_plan, plain_job, compile_plan, compile_job}
 use Rattle.heco_top.specs.declared.command.Command.{Command}
-use Rattle.heco_top.specs.declared.command.Command.TheVariants.{Plain, Compile, Show, Draw, Keys, Encrypt, Run, Decrypt, Exec}
+use Rattle.heco_top.specs.declared.command.Command.TheVariants.{Plain, Compile, Show, Draw, Keys, Encrypt, Run, Decrypt, Exec, Sample}
 use Rattle.heco_top.specs.Seeds.{seed_of}
 
 -- ---- the rows of words
@@ -64,6 +65,11 @@ exec_of (source ∷ inputs ∷ keys ∷ material ∷ circuit ∷ secret ∷ eval
     where_distinct (source ∷ inputs ∷ keys ∷ material ∷ circuit ∷ secret ∷ evaluation ∷ ciphertexts ∷ results ∷ []) (Some Exec)
 exec_of words = None
 
+-- sample SEED, where the seed is no file word
+abbrev pub sample_of : List (List ℕ) → Option Command
+sample_of (seed ∷ []) = option_map (λ n. Sample n) (seed_of seed)
+sample_of words = None
+
 abbrev pub command_of : List (List ℕ) → Option Command
 command_of (c ∷ rest) =
     if bytes_eq c (codes "plain") then plain_of rest else
@@ -74,7 +80,8 @@ command_of (c ∷ rest) =
     if bytes_eq c (codes "encrypt") then encrypt_of rest else
     if bytes_eq c (codes "run") then run_of rest else
     if bytes_eq c (codes "decrypt") then decrypt_of rest else
-    if bytes_eq c (codes "exec") then exec_of rest else None
+    if bytes_eq c (codes "exec") then exec_of rest else
+    if bytes_eq c (codes "sample") then sample_of rest else None
 command_of [] = None
 
 -- ---- the plans and the jobs
@@ -89,6 +96,7 @@ plan_of Encrypt = encrypt_plan
 plan_of Run = run_plan
 plan_of Decrypt = decrypt_plan
 plan_of Exec = exec_plan
+plan_of (Sample seed) = sample_plan
 
 -- whether it asks the picker
 abbrev pub asks : Command → Bool
@@ -101,6 +109,7 @@ asks Encrypt = false
 asks Run = true
 asks Decrypt = false
 asks Exec = true
+asks (Sample seed) = true
 
 abbrev pub job_of : Agents → Command → Job
 job_of agents Plain = plain_job agents
@@ -112,3 +121,4 @@ job_of agents Encrypt = encrypt_job agents
 job_of agents Run = run_job agents
 job_of agents Decrypt = decrypt_job agents
 job_of agents Exec = exec_job agents
+job_of agents (Sample seed) = sample_job agents seed

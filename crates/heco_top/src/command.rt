@@ -2,7 +2,7 @@ ghost use Rattle.std.specs.Prelude.{◌≡◌};
 ghost use Rattle.std.specs.List.{list_any};
 ghost use Rattle.std.specs.Str.{bytes_eq};
 ghost use Rattle.heco_jobs.specs.Words.{texts, are_distinct};
-ghost use Rattle.heco_top.specs.Commands.{command_of, plain_of, compile_of, show_of, draw_of, keys_of, encrypt_of, run_of, decrypt_of, exec_of};
+ghost use Rattle.heco_top.specs.Commands.{command_of, plain_of, compile_of, show_of, draw_of, keys_of, encrypt_of, run_of, decrypt_of, exec_of, sample_of};
 
 use crate::seed::seed_of;
 
@@ -18,6 +18,7 @@ pub enum Command {
     Run,
     Decrypt,
     Exec,
+    Sample { seed: u64 },
 }
 
 fn is_among(name: &str, words: &[String]) -> bool
@@ -168,6 +169,17 @@ fn exec_of(words: &[String]) -> Option<Command>
     }
 }
 
+// sample SEED
+fn sample_of(words: &[String]) -> Option<Command>
+    ensures { result ≡ sample_of (texts words.now) }
+{
+    let [seed] = words else {
+        return None;
+    };
+    let seed = seed_of(seed.as_str())?;
+    Some(Command::Sample { seed })
+}
+
 /// The command of the words. The file words of a command differ.
 pub fn command_of(words: &[String]) -> Option<Command>
     ensures { result ≡ command_of (texts words.now) }
@@ -202,6 +214,9 @@ pub fn command_of(words: &[String]) -> Option<Command>
     }
     if command == "exec" {
         return exec_of(rest);
+    }
+    if command == "sample" {
+        return sample_of(rest);
     }
     None
 }

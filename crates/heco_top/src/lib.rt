@@ -5,6 +5,7 @@ mod command;
 mod exec;
 mod gather;
 mod run;
+mod sample;
 mod seed;
 mod top;
 

@@ -1,0 +1,9 @@
+pub mod Lexing
+pub mod Folds
+pub mod Tree
+pub mod Typing
+pub mod Written
+pub mod Reading
+pub mod Execution
+pub mod Accepted
+pub mod Sources
