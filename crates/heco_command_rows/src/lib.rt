@@ -32,4 +32,8 @@ mod refused;
 #[cfg(test)]
 mod row;
 #[cfg(test)]
+mod sample;
+#[cfg(test)]
+mod sample_words;
+#[cfg(test)]
 mod text;
