@@ -1,9 +1,10 @@
 use crate::asked::{AskedSink, AskedStore};
 use heco_nums::{Bytes, List};
 use heco_outside::{MemSink, MemStore};
+use heco_row_steps::words_of;
 use heco_sched::{First, Picker};
 use heco_top::heco;
-use std::alloc::{AllocError, Global};
+use std::alloc::Global;
 use std::test::Fail;
 
 const SOURCE: &str =
@@ -27,14 +28,6 @@ exec f none k e c2 s2 v2 t2 r2|f 1048577$none 4194305$|0
 show f|f 536870912$|0
 plain f f||0";
 
-fn split(alloc: Global, text: &str) -> Result<Vec<String>, AllocError> {
-    let mut words = Vec::new(alloc);
-    for word in text.split_whitespace() {
-        words.push(String::from_str(alloc, word)?)?;
-    }
-    Ok(words)
-}
-
 fn files(alloc: Global) -> Result<AskedStore, Fail> {
     let mut files = MemStore::new(alloc, List::new(alloc));
     files.put("f", SOURCE.as_bytes())?;
@@ -44,7 +37,7 @@ fn files(alloc: Global) -> Result<AskedStore, Fail> {
 
 // How many pieces the command prints.
 fn pieces(alloc: Global, words: &str, store: &mut AskedStore) -> Result<u64, Fail> {
-    let words = split(alloc, words)?;
+    let words = words_of(alloc, words)?;
     let mut out = AskedSink::new(alloc);
     let mut err = MemSink::new(alloc, List::new(alloc));
     let mut picker: Box<dyn Picker> = Box::new(alloc, First)?;

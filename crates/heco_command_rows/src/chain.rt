@@ -1,4 +1,4 @@
-use crate::row::row_holds;
+use heco_row_steps::row_holds;
 use std::test::Fail;
 
 // Keys for the circuit that copies one number, the number 5 encrypted, and that file as one of results.

@@ -1,5 +1,4 @@
-use crate::bench::Bench;
-use crate::text::text_of;
+use heco_row_steps::{Bench, text_of};
 use std::alloc::Global;
 use std::test::Fail;
 

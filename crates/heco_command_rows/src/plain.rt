@@ -1,5 +1,4 @@
-use crate::bench::Bench;
-use crate::text::text_of;
+use heco_row_steps::{Bench, text_of};
 use std::alloc::Global;
 use std::test::Fail;
 
@@ -128,19 +127,12 @@ f(in x, out y) { y = x; }|x = 257$||f.in:1: InputValue$|3
 f(in x, out y) { y = x; }|$x = 1$x = 1||f.in:3: InputName$|3
 f(in x, in z) {}|x = 1||f.in: InputMissing 1$|3";
 
-fn put(alloc: Global, bench: &mut Bench, name: &str, field: &str) -> Result<(), Fail> {
-    if field == "none" {
-        return Ok(());
-    }
-    bench.put(name, text_of(alloc, field)?.as_str().as_bytes())
-}
-
 // Whether `plain` leaves what the row says.
 fn holds(alloc: Global, row: &str) -> Result<bool, Fail> {
     let mut fields = row.split('|');
     let mut bench = Bench::new(alloc, 0, 0, 0)?;
-    put(alloc, &mut bench, "f.he", fields.next().ok_or("no source")?)?;
-    put(alloc, &mut bench, "f.in", fields.next().ok_or("no inputs")?)?;
+    bench.put_field(alloc, "f.he", fields.next().ok_or("no source")?)?;
+    bench.put_field(alloc, "f.in", fields.next().ok_or("no inputs")?)?;
     let printed = text_of(alloc, fields.next().ok_or("no text")?)?;
     let line = text_of(alloc, fields.next().ok_or("no line")?)?;
     let status = fields.next().ok_or("no status")?;
@@ -172,8 +164,8 @@ fn given(
     err_fails: u64,
 ) -> Result<String, Fail> {
     let mut bench = Bench::new(alloc, store_fails, out_fails, err_fails)?;
-    put(alloc, &mut bench, "f.he", "f(in x, out y) { y = x; }")?;
-    put(alloc, &mut bench, "f.in", "x = 1")?;
+    bench.put_field(alloc, "f.he", "f(in x, out y) { y = x; }")?;
+    bench.put_field(alloc, "f.in", "x = 1")?;
     bench.step(alloc, words)?;
     bench.left(alloc)
 }

@@ -1,5 +1,5 @@
-use crate::bench::Bench;
 use crate::material::START;
+use heco_row_steps::Bench;
 use std::alloc::Global;
 use std::test::Fail;
 

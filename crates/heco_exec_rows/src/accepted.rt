@@ -1,5 +1,4 @@
-use crate::bench::Bench;
-use crate::text::text_of;
+use heco_row_steps::{Bench, text_of};
 use std::alloc::Global;
 use std::test::Fail;
 
@@ -43,16 +42,12 @@ const LONG: &str =
 const STEPS: &str =
     "plain f.he f.in;compile f.he c0;draw c0 1 k e;keys c0 k s0 v0;encrypt c0 v0 e f.in t0;run c0 v0 t0 r0;decrypt c0 s0 r0;exec f.he f.in k e c s v t r;same c c0;same s s0;same v v0;same t t0;same r r0";
 
-fn put(alloc: Global, bench: &mut Bench, name: &str, field: &str) -> Result<(), Fail> {
-    bench.put(name, text_of(alloc, field)?.as_str().as_bytes())
-}
-
 // Whether all three print what the row says.
 fn holds(alloc: Global, row: &str) -> Result<bool, Fail> {
     let mut fields = row.split('|');
     let mut bench = Bench::new(alloc, 0, 0, 0)?;
-    put(alloc, &mut bench, "f.he", fields.next().ok_or("no source")?)?;
-    put(alloc, &mut bench, "f.in", fields.next().ok_or("no inputs")?)?;
+    bench.put_field(alloc, "f.he", fields.next().ok_or("no source")?)?;
+    bench.put_field(alloc, "f.in", fields.next().ok_or("no inputs")?)?;
     let printed = text_of(alloc, fields.next().ok_or("no text")?)?;
     bench.steps(alloc, STEPS)?;
     let want = format!(in alloc; "0||{printed}{printed}{printed}")?;

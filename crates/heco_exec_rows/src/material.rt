@@ -1,4 +1,4 @@
-use crate::row::row_holds;
+use heco_row_steps::row_holds;
 use std::test::Fail;
 
 /// The dot product of eight, its circuit as `c0`, and material for it.

@@ -1,5 +1,4 @@
-use crate::bench::Bench;
-use crate::text::text_of;
+use heco_row_steps::Bench;
 use std::alloc::Global;
 use std::test::Fail;
 
@@ -32,19 +31,12 @@ const LONG: &str = "`1048577* `|none|1|f.he: SourceLong
 f(in x, out y) { y = x; }|`4194305* `|3|f.in: InputLong
 params p8;$fn f(in x, out y) {$for i in 0..131071 { y = 1; }$y = 2;$y = 3;$}|none|1|f.he:5:1: TooLarge";
 
-fn put(alloc: Global, bench: &mut Bench, name: &str, field: &str) -> Result<(), Fail> {
-    if field == "none" {
-        return Ok(());
-    }
-    bench.put(name, text_of(alloc, field)?.as_str().as_bytes())
-}
-
 // Whether `exec` refuses as the row says, and leaves nothing.
 fn holds(alloc: Global, row: &str) -> Result<bool, Fail> {
     let mut fields = row.split('|');
     let mut bench = Bench::new(alloc, 0, 0, 0)?;
-    put(alloc, &mut bench, "f.he", fields.next().ok_or("no source")?)?;
-    put(alloc, &mut bench, "f.in", fields.next().ok_or("no inputs")?)?;
+    bench.put_field(alloc, "f.he", fields.next().ok_or("no source")?)?;
+    bench.put_field(alloc, "f.in", fields.next().ok_or("no inputs")?)?;
     let status = fields.next().ok_or("no status")?;
     let line = fields.next().ok_or("no line")?;
     bench.steps(

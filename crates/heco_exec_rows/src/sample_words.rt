@@ -1,4 +1,4 @@
-use crate::row::row_holds;
+use heco_row_steps::row_holds;
 use std::test::Fail;
 
 // Rows of steps: words that ask for nothing, and a standard output that fails.

@@ -1,7 +1,6 @@
-use crate::bench::Bench;
-use crate::text::text_of;
 use heco_draw::draw_values;
 use heco_nums::Preset;
+use heco_row_steps::Bench;
 use std::alloc::Global;
 use std::cell::Cell;
 use std::rc::Rc;
@@ -48,30 +47,43 @@ fn drawn_inputs(alloc: Global) -> Result<String, Fail> {
     Ok(text)
 }
 
-// The number behind a label, which is a whole line.
+// The number of a line, behind its label.
 fn number_of(line: Option<&str>, label: &str) -> Result<u128, Fail> {
     let number = line.ok_or("no line")?.strip_prefix(label);
     Ok(number.ok_or("another line")?.parse::<u128>()?)
 }
 
-#[test]
-fn the_lines_are_those_of_exec(rt: HostRuntime) -> Result<(), Fail> {
-    let alloc = rt.alloc();
+// What `exec` prints on the inputs and the material that the seed 7 draws.
+fn by_exec(alloc: Global) -> Result<String, Fail> {
     let mut bench = Bench::new(alloc, 0, 0, 0)?;
-    bench.put("f.he", text_of(alloc, SOURCE)?.as_str().as_bytes())?;
+    bench.put_field(alloc, "f.he", SOURCE)?;
     bench.put("f.in", drawn_inputs(alloc)?.as_str().as_bytes())?;
     let steps = "compile f.he c0;draw c0 7 k e;exec f.he f.in k e c s v t r";
-    let value = printed(alloc, &mut bench, steps)?;
-    let text = sampled(alloc, "sample 7")?;
-    let mut lines = text.as_str().lines();
-    assert!(rt; lines.next() == Some("dot of 512, seed 7"));
-    assert!(rt; number_of(lines.next(), "gates ")? <= 20);
-    assert!(rt; number_of(lines.next(), "bound ")? <= 106_970_622_267_936_256);
-    let want = format!(in alloc; "plain {value}heco {value}")?;
-    assert!(rt; text.as_str().ends_with(want.as_str()));
-    // The sum of the products of the drawn words, computed outside.
-    assert!(rt; lines.next() == Some("plain s = 36450"));
-    assert_eq!(rt; lines.count(), 1);
+    printed(alloc, &mut bench, steps)
+}
+
+// The sum of the products of the drawn words was computed outside.
+#[test]
+fn exec_prints_the_sum_of_the_drawn_values(rt: HostRuntime) -> Result<(), Fail> {
+    assert_eq!(rt; by_exec(rt.alloc())?.as_str(), "s = 36450\n");
+    Ok(())
+}
+
+// Whether they are the five lines of the seed 7, with no more gates and no greater bound than a sum by halves has.
+fn are_of_seven(text: &str) -> Result<bool, Fail> {
+    let mut lines = text.lines();
+    let head = lines.next() == Some("dot of 512, seed 7");
+    let gates = number_of(lines.next(), "gates ")?;
+    let bound = number_of(lines.next(), "bound ")?;
+    let plain = lines.next() == Some("plain s = 36450");
+    let decrypted = lines.next() == Some("heco s = 36450");
+    let within = gates <= 20 && bound <= 106_970_622_267_936_256;
+    Ok(head && within && plain && decrypted && lines.next().is_none())
+}
+
+#[test]
+fn the_lines_are_those_of_exec(rt: HostRuntime) -> Result<(), Fail> {
+    assert!(rt; are_of_seven(sampled(rt.alloc(), "sample 7")?.as_str())?);
     Ok(())
 }
 
@@ -85,11 +97,12 @@ fn zeros_before_a_seed_change_nothing(rt: HostRuntime) -> Result<(), Fail> {
 }
 
 #[test]
-fn another_seed_gives_another_sum(rt: HostRuntime) -> Result<(), Fail> {
-    let alloc = rt.alloc();
-    let text = sampled(alloc, "sample 18446744073709551615")?;
-    let mut lines = text.as_str().lines();
-    assert!(rt; lines.next() == Some("dot of 512, seed 18446744073709551615"));
+fn the_greatest_seed_is_taken(rt: HostRuntime) -> Result<(), Fail> {
+    let text = sampled(rt.alloc(), "sample 18446744073709551615")?;
+    assert!(rt;
+        text.as_str()
+            .starts_with("dot of 512, seed 18446744073709551615\n")
+    );
     Ok(())
 }
 

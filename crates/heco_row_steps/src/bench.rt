@@ -82,6 +82,15 @@ impl Bench {
         Ok(())
     }
 
+    /// Sets a file to the text that a field of a row stands for. The field `none` stands for a file that is absent.
+    pub fn put_field(&mut self, alloc: Global, name: &str, field: &str) -> Result<(), Fail> {
+        if field == "none" {
+            return Ok(());
+        }
+        let text = text_of(alloc, field)?;
+        self.put(name, text.as_str().as_bytes())
+    }
+
     // Writes hexadecimal bytes over a file: PLACE BYTES.
     fn set(&mut self, alloc: Global, name: &str, rest: &str) -> Result<(), Fail> {
         let (at, new) = rest.split_once(' ').ok_or("no bytes")?;

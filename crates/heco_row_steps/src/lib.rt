@@ -1,0 +1,14 @@
+//! For the tests of commands: files in memory, texts with marks, and steps that make files and give commands.
+#![tactic(auto)]
+
+mod bench;
+mod counted;
+mod files;
+mod pickers;
+mod row;
+mod text;
+
+pub use bench::Bench;
+pub use files::words_of;
+pub use row::row_holds;
+pub use text::text_of;
