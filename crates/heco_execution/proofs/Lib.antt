@@ -1,4 +1,5 @@
 pub mod CallLemmas
+pub mod DefinitionLemmas
 pub mod Evaluations
 pub mod ExpressionLemmas
 pub mod Following

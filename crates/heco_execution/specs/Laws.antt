@@ -1,13 +1,25 @@
 -- What the executions on numbers and on terms have in common, and what the terms are made of.
-use Rattle.std.specs.Prelude.{◌≡◌, ℕ, zero, suc, ◌<◌, ◌≤◌, List, [], ◌∷◌, map, cond, Ok, Err}
+use Rattle.std.specs.Prelude.{◌≡◌, ℕ, zero, suc, ◌<◌, ◌≤◌, List, [], ◌∷◌, map, take, slice_get, cond, Some, Ok, Err}
 use Rattle.std.specs.List.{All}
 use Rattle.heco_syntax.specs.Ports.{length_of}
+use Rattle.heco_syntax.specs.declared.tree.Def.{Def}
 use Rattle.heco_syntax.specs.declared.tree.Param.{Param}
 use Rattle.heco_syntax.specs.declared.tree.Source.{Source}
 use Rattle.heco_written.specs.World.{World}
 use Rattle.heco_written.specs.ScalarTerm.{ScalarTerm, Element, IsMade, scalar_value}
+use Rattle.heco_execution.specs.declared.progress.Progress.{Progress}
+use Rattle.heco_execution.specs.declared.value.Value.{Value}
+use Rattle.heco_execution.specs.Definitions.{last_named}
+use Rattle.heco_execution.specs.Evaluation.{meaning, calls_of}
 use Rattle.heco_execution.specs.Outcomes.{Outcome}
 use Rattle.heco_execution.specs.Plain.{plain_outputs, term_outputs}
+use Rattle.heco_execution.specs.Secrets.{Stored}
+
+-- a call means the last definition of its name, over the definitions before that one
+abbrev pub CallsMeanTheirDefinitions : {S V : Type 0} → Stored S V → Type 0
+CallsMeanTheirDefinitions {S} {V} ops =
+    (defs : List Def) (k : ℕ) (d : Def) (name : List ℕ) (args : List (Value V)) (p : Progress S) → last_named name defs ≡ Some k → slice_get defs k ≡ Some d
+    → calls_of ops defs name args p ≡ meaning ops (calls_of ops (take k defs)) d args p
 
 -- the lengths of the inputs, in order
 abbrev pub input_lengths : List Param → List ℕ

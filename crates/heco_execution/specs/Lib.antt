@@ -1,3 +1,4 @@
+pub mod Definitions
 pub mod Evaluation
 pub mod Execution
 pub mod Laws

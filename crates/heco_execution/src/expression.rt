@@ -3,6 +3,7 @@ ghost use Rattle.heco_execution.specs.Outcomes.{Refuses};
 ghost use Rattle.heco_execution.specs.Evaluation.{along, evaluate, sum_part, product_part, in_turn, calls_of, called, meaning};
 
 use crate::calls::{any_secret, with_arguments};
+use crate::definitions::Definitions;
 use crate::names::{Names, element};
 use crate::operators::{as_secret, literal, operate, opposite};
 use crate::progress::count;
@@ -26,7 +27,7 @@ fn sign(minus: bool) -> Operator
 pub fn evaluate<S: Secrets>(
     alloc: Global,
     m: &S,
-    defs: &[Def],
+    defs: &Definitions,
     names: &Names<S::Value>,
     p: &mut Progress<S::Store>,
     e: &Expr,
@@ -64,7 +65,7 @@ pub fn evaluate<S: Secrets>(
 fn sum<S: Secrets>(
     alloc: Global,
     m: &S,
-    defs: &[Def],
+    defs: &Definitions,
     names: &Names<S::Value>,
     p: &mut Progress<S::Store>,
     first: Value<S::Value>,
@@ -86,7 +87,7 @@ fn sum<S: Secrets>(
 fn product<S: Secrets>(
     alloc: Global,
     m: &S,
-    defs: &[Def],
+    defs: &Definitions,
     names: &Names<S::Value>,
     p: &mut Progress<S::Store>,
     first: Value<S::Value>,
@@ -109,7 +110,7 @@ fn product<S: Secrets>(
 pub fn in_turn<S: Secrets>(
     alloc: Global,
     m: &S,
-    defs: &[Def],
+    defs: &Definitions,
     names: &Names<S::Value>,
     p: &mut Progress<S::Store>,
     args: &[Expr],
@@ -130,7 +131,7 @@ pub fn in_turn<S: Secrets>(
 fn called<S: Secrets>(
     alloc: Global,
     m: &S,
-    defs: &[Def],
+    defs: &Definitions,
     names: &Names<S::Value>,
     p: &mut Progress<S::Store>,
     name: &Ident,
@@ -146,11 +147,11 @@ fn called<S: Secrets>(
 
 // A call by its name.
 #[cycle(evaluate)]
-#[tactic(auto, using(crate::proofs::CallLemmas::call_last, crate::proofs::CallLemmas::call_before, crate::proofs::CallLemmas::room_before, crate::proofs::CallLemmas::room_less))]
+#[tactic(auto, using(crate::proofs::CallLemmas::call_last, crate::proofs::CallLemmas::call_none, crate::proofs::CallLemmas::room_at))]
 fn call<S: Secrets>(
     alloc: Global,
     m: &S,
-    defs: &[Def],
+    defs: &Definitions,
     p: &mut Progress<S::Store>,
     name: &[u8],
     args: List<Value<S::Value>>,
@@ -158,15 +159,9 @@ fn call<S: Secrets>(
     ensures ok { IfOk result (λ v. calls_of (S.ops m.now) defs.now name.now args p.old ≡ Ok (v, p.new)) }
     ensures err { IfErr result (λ e. Refuses e (calls_of (S.ops m.now) defs.now name.now args p.old)) }
 {
-    match defs.split_last() {
+    match defs.find(name) {
         None => Ok(Value::Public(0)),
-        Some((d, before)) => {
-            if d.name.text.as_slice() == name {
-                apply(alloc, m, before, d, p, args)
-            } else {
-                call(alloc, m, before, p, name, args)
-            }
-        }
+        Some(k) => apply(alloc, m, &defs.before(k), defs.at(k), p, args),
     }
 }
 
@@ -176,7 +171,7 @@ fn call<S: Secrets>(
 fn apply<S: Secrets>(
     alloc: Global,
     m: &S,
-    before: &[Def],
+    before: &Definitions,
     d: &Def,
     p: &mut Progress<S::Store>,
     args: List<Value<S::Value>>,

@@ -1,4 +1,12 @@
-ghost use Rattle.heco_execution.specs.Laws.{NumbersAreTheTermsValues, TermsAreMade};
+ghost use Rattle.heco_execution.specs.Laws.{CallsMeanTheirDefinitions, NumbersAreTheTermsValues, TermsAreMade};
+
+use crate::Secrets;
+
+/// Whatever the secrets are: a call means the last definition of its name, over the definitions before that one.
+#[tactic(auto, using(crate::proofs::CallLemmas::call_last))]
+pub fn calls_mean_their_definitions<S: Secrets>(m: &S)
+    ensures { CallsMeanTheirDefinitions (S.ops m.now) }
+{}
 
 /// For each source and all inputs of its shapes: the numbers that come out are the values of the terms that come out,
 /// which depend on the source and the modulus alone; and where a rule is broken, it is the same one at the same place.

@@ -2,6 +2,7 @@
 #![tactic(auto)]
 
 mod calls;
+mod definitions;
 mod error;
 mod expression;
 mod law;
@@ -15,7 +16,7 @@ mod value;
 mod whole;
 
 pub use error::EvalErr;
-pub use law::{numbers_are_the_values_of_terms, terms_are_made};
+pub use law::{calls_mean_their_definitions, numbers_are_the_values_of_terms, terms_are_made};
 pub use numbers::{Numbers, plain};
 pub use progress::Progress;
 pub use secrets::Secrets;

@@ -4,6 +4,7 @@ ghost use Rattle.heco_execution.specs.Evaluation.{calls_of};
 ghost use Rattle.heco_execution.specs.Execution.{holds, within, looped, decided, at_least_zero, bound, turn, turns, zeros, kept, combined, target_index, initial, assigned, run, run_all};
 
 use crate::calls::only;
+use crate::definitions::Definitions;
 use crate::expression::{evaluate, in_turn};
 use crate::names::{Names, element};
 use crate::operators::{as_secret, operate};
@@ -11,7 +12,7 @@ use crate::progress::{count, count_list};
 use crate::{EvalErr, Operator, Progress, Secrets, Value};
 use heco_lex::Place;
 use heco_nums::{List, Memory};
-use heco_syntax::{Def, Expr, Ident, Num, SetOp, Stmt};
+use heco_syntax::{Expr, Ident, Num, SetOp, Stmt};
 use std::alloc::Global;
 
 fn copies<V: Copy>(alloc: Global, n: u64, v: Value<V>) -> Result<List<Value<V>>, Memory>
@@ -73,7 +74,7 @@ fn combined<S: Secrets>(
 fn target_index<S: Secrets>(
     alloc: Global,
     m: &S,
-    defs: &[Def],
+    defs: &Definitions,
     names: &Names<S::Value>,
     p: &mut Progress<S::Store>,
     index: &Option<Expr>,
@@ -90,7 +91,7 @@ fn target_index<S: Secrets>(
 fn initial<S: Secrets>(
     alloc: Global,
     m: &S,
-    defs: &[Def],
+    defs: &Definitions,
     names: &Names<S::Value>,
     p: &mut Progress<S::Store>,
     value: &Option<Expr>,
@@ -129,7 +130,7 @@ fn holds<V: Copy>(v: Value<V>) -> bool
 fn assign<S: Secrets>(
     alloc: Global,
     m: &S,
-    defs: &[Def],
+    defs: &Definitions,
     names: &mut Names<S::Value>,
     p: &mut Progress<S::Store>,
     name: &Ident,
@@ -155,7 +156,7 @@ fn assign<S: Secrets>(
 pub fn run<S: Secrets>(
     alloc: Global,
     m: &S,
-    defs: &[Def],
+    defs: &Definitions,
     names: &mut Names<S::Value>,
     p: &mut Progress<S::Store>,
     s: &Stmt,
@@ -244,7 +245,7 @@ pub fn run<S: Secrets>(
 fn run_loop<S: Secrets>(
     alloc: Global,
     m: &S,
-    defs: &[Def],
+    defs: &Definitions,
     names: &mut Names<S::Value>,
     p: &mut Progress<S::Store>,
     at: Place,
@@ -266,7 +267,7 @@ fn run_loop<S: Secrets>(
 fn run_if<S: Secrets>(
     alloc: Global,
     m: &S,
-    defs: &[Def],
+    defs: &Definitions,
     names: &mut Names<S::Value>,
     p: &mut Progress<S::Store>,
     at: Place,
@@ -289,7 +290,7 @@ fn run_if<S: Secrets>(
 fn run_either<S: Secrets>(
     alloc: Global,
     m: &S,
-    defs: &[Def],
+    defs: &Definitions,
     names: &mut Names<S::Value>,
     p: &mut Progress<S::Store>,
     at: Place,
@@ -314,7 +315,7 @@ fn run_either<S: Secrets>(
 fn run_turns<S: Secrets>(
     alloc: Global,
     m: &S,
-    defs: &[Def],
+    defs: &Definitions,
     names: &mut Names<S::Value>,
     p: &mut Progress<S::Store>,
     at: Place,
@@ -338,7 +339,7 @@ fn run_turns<S: Secrets>(
 fn run_turn<S: Secrets>(
     alloc: Global,
     m: &S,
-    defs: &[Def],
+    defs: &Definitions,
     names: &mut Names<S::Value>,
     p: &mut Progress<S::Store>,
     at: Place,
@@ -362,7 +363,7 @@ fn run_turn<S: Secrets>(
 fn run_within<S: Secrets>(
     alloc: Global,
     m: &S,
-    defs: &[Def],
+    defs: &Definitions,
     names: &mut Names<S::Value>,
     p: &mut Progress<S::Store>,
     body: &[Stmt],
@@ -381,7 +382,7 @@ fn run_within<S: Secrets>(
 pub fn run_all<S: Secrets>(
     alloc: Global,
     m: &S,
-    defs: &[Def],
+    defs: &Definitions,
     names: &mut Names<S::Value>,
     p: &mut Progress<S::Store>,
     body: &[Stmt],

@@ -4,6 +4,7 @@ ghost use Rattle.heco_execution.specs.States.{nothing};
 ghost use Rattle.heco_execution.specs.Whole.{opened, as_secrets, with_output, outputs, execute};
 ghost use Rattle.heco_execution.specs.declared.value.Value.TheVariants.{Secret};
 
+use crate::definitions::{Definitions, Index};
 use crate::names::Names;
 use crate::operators::as_secret;
 use crate::statement::{run_all, zeros};
@@ -120,11 +121,12 @@ pub fn execute<S: Secrets>(
     ensures ok { IfOk result (λ out. execute (S.ops m.now) source.now rows.now p.old ≡ Ok (out, p.new)) }
     ensures err { IfErr result (λ e. Refuses e (execute (S.ops m.now) source.now rows.now p.old)) }
 {
+    let index = Index::new(alloc, source.defs.as_slice())?;
     let mut names = opened(alloc, m, source.ports.as_slice(), rows, p)?;
     run_all(
         alloc,
         m,
-        source.defs.as_slice(),
+        &Definitions::all(&index),
         &mut names,
         p,
         source.body.as_slice(),

@@ -1,8 +1,7 @@
-use Rattle.std.proofs.Common.{◌≡◌, ◌∙◌, ap}
+use Rattle.std.proofs.Common.{◌∙◌, ap}
 use Rattle.std.proofs.lemmas.Result.{err_from_is_err_and}
 use Rattle.heco_execution.specs.Evaluation.{with_arguments, calls_of}
 use Rattle.heco_execution.specs.States.{nothing}
-use Rattle.heco_execution.proofs.CallLemmas.{call_none}
 use Rattle.heco_execution.proofs.ExpressionLemmas.{call_goes_on, meaning_refuses, sum_refuses, product_refuses}
 use Rattle.heco_execution.proofs.expression.+evaluate.Goals as goal
 
@@ -31,10 +30,6 @@ evaluate-returns-in-Call-clause-err g t c =
     rw (call_goes_on (g.S.Secrets.ops c.args.m.now) (calls_of (g.S.Secrets.ops c.args.m.now) c.args.defs.now) c.args.e.now c.in-Call.name c.in-Call.args c.as_slice-in-Call.result.now
     c.args.names.now c.args.p.now c.in-Call.is c.as_slice-in-Call.ensures)
     c.called.ensures.err
-
-pub call-returns-in-None-clause-ok : goal.call-returns-in-None-clause-ok
-call-returns-in-None-clause-ok g t c =
-    call_none (g.S.Secrets.ops c.args.m.now) c.args.defs.now c.args.name.now c.args.args c.args.p.now c.in-None.ensures.cases
 
 pub apply-returns-in_err-v-clause-err : goal.apply-returns-in_err-v-clause-err
 apply-returns-in_err-v-clause-err g t c =
