@@ -12,7 +12,7 @@ use Rattle.heco_ciphertext_files.proofs.Files.{own_file}
 use Rattle.heco_circuit.specs.Circuits.{IsCircuit}
 use Rattle.heco_circuit.specs.Needs.{needs_relin, needed_turns}
 use Rattle.heco_circuit.specs.Plans.{Plan as Circuit, shape_of}
-use Rattle.heco_circuit.proofs.Rising.{needed_amounts, turns_rise}
+use Rattle.heco_circuit.proofs.Rising.{needed_amounts, needed_rising}
 use Rattle.heco_key_files.specs.KeyFiles.{EvalLists, AreEvalLists, evaluation, eval_text, lists_text, secret_text}
 use Rattle.heco_key_files.proofs.EvalLaws.{preset_law}
 use Rattle.heco_key_files.proofs.Judged.{own_text}
@@ -65,7 +65,7 @@ slots_pos n s p e = omega arith
 pub made_keys_read : MadeKeysAreRead
 made_keys_read p c k id keys = made_evaluation p.n p.h p.b p.slots (needs_relin c) (needed_turns c) k
     (record {
-      rising = turns_rise c.gates 1 (slots_of c.preset - 1);
+      rising = needed_rising c;
       amounts = needed_amounts c p.slots (ap slots_of (sym id) ∙ sym p.row.3) (slots_pos p.n p.slots (facts p).n_pos (facts p).slots_half);
     })
     keys

@@ -2,9 +2,10 @@
 use Rattle.std.proofs.Common.{◌≡◌, ℕ, ltb, ◌+◌, ◌-◌, ◌<◌, ◌≤◌, true, List, [], ◌∷◌, length, map, refl, sym, ap, subst, ◌∙◌, get_or, arith}
 use Rattle.std.specs.Prelude.{All}
 use Rattle.std.specs.Option.{is_none}
-use Rattle.std.specs.List.{count_by, flat_map, range_with_len}
+use Rattle.std.specs.List.{count_by, flat_map, list_any, range_with_len}
 use Rattle.std.proofs.lemmas.Bool.Decides.{nat_tests}
 use Rattle.std.proofs.lemmas.List.{get_or-drop, get_or_default, length-drop, length-map, length_push}
+use Rattle.std.proofs.lemmas.List.Elements.{filter_agree}
 use Rattle.heco_nums.specs.Presets.{modulus_of, slots_of}
 use Rattle.heco_nums.specs.declared.shape.Shape.{Shape}
 use Rattle.heco_fields.specs.Runs.{along}
@@ -28,6 +29,7 @@ use Rattle.heco_circuit.specs.declared.gate.Output.{Output}
 use Rattle.heco_circuit.specs.Bounds.{fresh_bounds, bound_of, with_bound}
 use Rattle.heco_circuit.specs.CircuitFormat.{plan}
 use Rattle.heco_circuit.specs.Circuits.{IsCircuit}
+use Rattle.heco_circuit.specs.Needs.{turns_by}
 use Rattle.heco_circuit.specs.Plans.{Plan, shape_of}
 use Rattle.heco_place.specs.declared.carrier.Carrier.{Carrier}
 use Rattle.heco_thrift.specs.Placed.{IsPlaced}
@@ -45,7 +47,7 @@ use Rattle.heco_place.proofs.LowTerms.{below_greatest, quiet_greatest}
 use Rattle.heco_place.proofs.KindCounts.{forms_differ}
 use Rattle.heco_place.proofs.NodeVectors.{vectors_over}
 use Rattle.heco_place.proofs.RootCells.{cells_ok, cells_hold, cells_within}
-use Rattle.heco_place.proofs.ThriftLaws.{low_at, none_passes, early_sum, occurring-filter, are, gates_within, relins_within, relins_are, turns_are}
+use Rattle.heco_place.proofs.ThriftLaws.{low_at, none_passes, early_sum, are, gates_within, relins_within, relins_are, turns_are}
 use Rattle.heco_place.proofs.ValidPlan.{Ports, formed, short}
 use Rattle.heco_place.specs.Ports.{ArePorts}
 use Rattle.heco_place.proofs.PortLaws.{ports_of}
@@ -124,7 +126,7 @@ module _ (id : ℕ) (inputs shapes : List Shape) (ns : List VNode) (ids : List N
     output_bounds = rw cells_are (cells_within id most inputs ns ids gates ds c outputs ports.inputs_ok homes within);
     relinearisations = relins_within id most inputs ns vs gates ds c;
     relinearisation_needed = rw vectors_are (relins_are id most inputs ns vs gates ds c ∙ relin_product ns (numbers ids) earlier once inside c.late used ∙ agrees.products_are);
-    turns_needed = rw vectors_are (occurring-filter gates (needs_turn vs) (λ r. turns_are id most inputs ns vs gates ds c r ∙ agrees.turns_are r) 1 (slots_of id - 1));
+    turns_needed = rw vectors_are (filter_agree (λ r. list_any (turns_by r) gates) (needs_turn vs) (λ r. turns_are id most inputs ns vs gates ds c r ∙ agrees.turns_are r) (range_with_len 1 (slots_of id - 1)));
   }
 
   pub is_placed : IsPlaced id inputs shapes (homes_over vs homes) whole

@@ -1,7 +1,6 @@
 -- How many gates there are, what bounds and what needs they have.
 use Rattle.std.proofs.Common.{◌≡◌, ℕ, zero, suc, ◌+◌, ◌<◌, ◌≤◌, Bool, true, false, cond, ltb, List, [], ◌∷◌, ◌++◌, length, map, None, refl, sym, ap, ◌∙◌, get_or, arith}
-use Rattle.std.specs.Prelude.{filter}
-use Rattle.std.specs.List.{list_any, sum_by, count_by, range_with_len, flat_map}
+use Rattle.std.specs.List.{list_any, sum_by, count_by, flat_map}
 use Rattle.std.proofs.lemmas.Bool.{leb-true, ltb-true}
 use Rattle.std.proofs.lemmas.Bool.Decides.{nat_tests}
 use Rattle.std.proofs.lemmas.List.{length_push, get_or_at, take_all}
@@ -19,7 +18,7 @@ use Rattle.heco_ir.specs.Terms.{vector_terms, vector_term_over}
 use Rattle.heco_ir.specs.Arena.{built_from}
 use Rattle.heco_circuit.specs.declared.gate.Gate.{Gate}
 use Rattle.heco_circuit.specs.Bounds.{bound_of, with_bound, first_passing}
-use Rattle.heco_circuit.specs.Needs.{is_relin, turns_by as gate_turns_by, occurring}
+use Rattle.heco_circuit.specs.Needs.{is_relin, turns_by as gate_turns_by}
 use Rattle.heco_place.specs.declared.carrier.Carrier.{Carrier}
 use Rattle.heco_thrift.specs.Thrift.{is_product as is_product_gate}
 use Rattle.heco_place.specs.Kinds.{is_relinearised, kind, kinds}
@@ -88,10 +87,6 @@ fewer false n e l d m is differ c = let le : m ≤ d = not_lt d m (sym c) in (om
 few_relins : (late : Bool) (n d m : ℕ) → n ≡ cond late d m → late ≡ ltb d m → n ≤ m
 few_relins true n d m is c = let lt : d < m = ltb-true d m (sym c) in omega arith
 few_relins false n d m is c = omega arith
-
-pub occurring-filter : (gs : List Gate) (p : ℕ → Bool) → ((r : ℕ) → list_any (gate_turns_by r) gs ≡ p r) → (a n : ℕ) → occurring gs a n ≡ filter p (range_with_len a n)
-occurring-filter gs p h a zero = refl
-occurring-filter gs p h a (suc n) = rw (h a, occurring-filter gs p h (a + 1) n) refl
 
 module _ (id most : ℕ) (inputs : List Shape) (ns : List VNode) (vs : List VectorTerm) (gs : List Gate) (ds : List Carrier) (c : IsChosen id most inputs ns vs gs ds) where
   abbrev ts : List VectorTerm

@@ -1,5 +1,5 @@
 -- The work that a run opens with.
-use Rattle.std.proofs.Common.{◌≡◌, ℕ, zero, suc, ◌+◌, ◌-◌, ◌<◌, ◌≤◌, inl, inr, List, [], ◌∷◌, length, map, replicate, get_or, refl, sym, ◌∙◌, ap, arith, Bool, true, false, not, cond, eqb, ◌&&◌, Option, Some, None}
+use Rattle.std.proofs.Common.{◌≡◌, ℕ, ◌-◌, ◌<◌, ◌≤◌, inl, inr, List, [], ◌∷◌, length, map, replicate, get_or, refl, sym, ◌∙◌, ap, arith, Bool, true, false, not, cond, eqb, ◌&&◌, Option, Some, None}
 use Rattle.std.specs.Prelude.{IsTrue, is_some}
 use Rattle.std.specs.List.{slice_get, list_any}
 use Rattle.std.specs.Option.{option_map}
@@ -9,10 +9,11 @@ use Rattle.std.proofs.lemmas.Option.{get_or_from_slice_get}
 use Rattle.heco_nums.specs.declared.preset.Preset.{Preset}
 use Rattle.heco_nums.specs.declared.needs.KeyNeeds.{KeyNeeds}
 use Rattle.heco_nums.specs.Presets.{slots_of, modulus_of}
+use Rattle.heco_nums.proofs.Amounts.{any_passing}
 use Rattle.heco_fields.proofs.Bools.{both_true}
 use Rattle.heco_circuit.specs.declared.gate.Gate.{Gate}
 use Rattle.heco_circuit.specs.declared.gate.Gate.TheVariants.{Neg, Add, Sub, Mul, Relin, Scale, Shift, Turn}
-use Rattle.heco_circuit.specs.Needs.{needs_relin, turns_by, occurring, needed_turns}
+use Rattle.heco_circuit.specs.Needs.{needs_relin, turns_by, needed_turns}
 use Rattle.heco_circuit.specs.Plans.{Plan, wire_parts, is_formed}
 use Rattle.heco_circuit.specs.Validity.{is_between, has_parts, is_gate}
 use Rattle.heco_keys.specs.declared.eval.Eval.{Eval}
@@ -23,7 +24,7 @@ use Rattle.heco_schedules.specs.Standings.{Wiring, wire_count, is_done, is_held}
 use Rattle.heco_schedules.specs.Schedules.{Schedule}
 use Rattle.heco_schedules.specs.Stores.{entry, held_values}
 use Rattle.heco_schedules.specs.Runs.{fresh}
-use Rattle.heco_schedules.proofs.Lists.{within, and_left, or_left, or_right, or_cases, length-map, length-table, get-table, some_of_any}
+use Rattle.heco_schedules.proofs.Lists.{within, and_left, or_cases, length-map, length-table, get-table, some_of_any}
 use Rattle.heco_schedules.proofs.Ends.{there}
 use Rattle.heco_schedules.proofs.Consistent.{done_cases}
 use Rattle.heco_schedules.proofs.Sound.{fresh_consistent, entry-held_values}
@@ -66,14 +67,6 @@ opens p needs found e = elim (cases_eq found (length p.inputs)) [
       turns = none_mapped (λ r. run.MissingKey r) (missing_turn (needed_turns p) needs.turns) (sym (turns_refused p needs found same fine) ∙ e);
     }
   ]
-]
-
-occurs : (gates : List Gate) (amount n r : ℕ) → amount ≤ r → r < amount + n → list_any (turns_by r) gates ≡ true → names (occurring gates amount n) r ≡ true
-occurs gates amount zero r low high h = absurd (omega arith)
-occurs gates amount (suc n) r low high h = elim (cases_eq amount r) [
-  | inl same ↦ (let on : list_any (turns_by amount) gates ≡ true = rw same h in rw on (or_left (eqb amount r) _ (grind arith)))
-  | inr apart ↦ (let later : names (occurring gates (amount + 1) n) r ≡ true = occurs gates (amount + 1) n r (omega arith) (omega arith) h in
-      elim (cases_Bool (list_any (turns_by amount) gates)) [ inl on ↦ rw on (or_right (eqb amount r) _ later) | inr off ↦ rw off later ])
 ]
 
 found_all : (needed turns : List ℕ) (r : ℕ) → missing_turn needed turns ≡ None → names needed r ≡ true → names turns r ≡ true
@@ -119,7 +112,7 @@ serves_all p e found formed one none =
       one_preset = one;
       relin = o.relin;
       turns = λ r h. (let range = amount_there p r formed h in
-          found_all (needed_turns p) e.needs.turns r o.turns (occurs p.gates 1 (slots_of p.preset - 1) r range.0 (let high : r ≤ slots_of p.preset - 1 = range.1 in omega arith) h));
+          found_all (needed_turns p) e.needs.turns r o.turns (any_passing (λ t. list_any (turns_by t) p.gates) 1 (slots_of p.preset - 1) r (range.0, omega (arith, range.1), h)));
     }
 
 -- ---- the fresh work

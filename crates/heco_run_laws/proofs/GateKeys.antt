@@ -1,13 +1,14 @@
 -- Each gate's key is among those that are made for the circuit.
-use Rattle.std.proofs.Common.{◌≡◌, ◌∙◌, ℕ, zero, suc, ◌+◌, ◌-◌, ◌<◌, ◌≤◌, Bool, true, ◌||◌, List, [], ◌∷◌, length, refl, sym, ap, subst, inl, inr, arith, if◌then◌else◌, ◌==◌, nat_le, get_or}
+use Rattle.std.proofs.Common.{◌≡◌, ◌∙◌, ℕ, suc, ◌+◌, ◌-◌, ◌<◌, ◌≤◌, Bool, true, ◌||◌, List, [], ◌∷◌, length, refl, sym, ap, subst, inl, inr, arith, if◌then◌else◌, ◌==◌, nat_le, get_or}
 use Rattle.std.specs.List.{list_any}
-use Rattle.std.proofs.lemmas.Bool.{and_parts, cases_Bool, cases_eq, cond-true, cond-false, cond_both, eq-eqb, eqb-true, leb-true, or_left, or_right}
+use Rattle.std.proofs.lemmas.Bool.{and_parts, cases_Bool, cond-true, cond-false, eq-eqb, eqb-true, leb-true, or_left, or_right}
 use lib.IntN.{ℤ}
 use Rattle.heco_nums.specs.Presets.{modulus_of, slots_of}
 use Rattle.heco_nums.specs.declared.preset.Preset.{Preset}
+use Rattle.heco_nums.proofs.Amounts.{any_passing}
 use Rattle.heco_fields.specs.Runs.{all_along}
 use Rattle.heco_circuit.specs.Circuits.{IsCircuit}
-use Rattle.heco_circuit.specs.Needs.{is_relin, turns_by, occurring, needs_relin, needed_turns, needed_keys}
+use Rattle.heco_circuit.specs.Needs.{is_relin, turns_by, needs_relin, needed_turns, needed_keys}
 use Rattle.heco_circuit.specs.Plans.{Plan, input_parts}
 use Rattle.heco_circuit.specs.Validity.{has_parts, is_between, is_gate, with_gate}
 use Rattle.heco_circuit.specs.declared.gate.Gate.{Gate}
@@ -21,19 +22,6 @@ use Rattle.heco_run_laws.proofs.Wires.{formed_gates}
 use Rattle.heco_scheme.specs.Keys.{square, turned, IsSwitchKey}
 use Rattle.heco_run_laws.specs.CircuitKeys.{circuit_rows, switch_keys}
 use Rattle.heco_keys.proofs.MadeRows.{length-all, made_switch, relin_source, turn_source}
-
--- ---- the amounts that occur
-
-occurs : (gates : List Gate) (r amount n : ℕ) → amount ≤ r → r < amount + n → list_any (turns_by r) gates ≡ true → list_any (λ t. t == r) (occurring gates amount n) ≡ true
-occurs gates r amount zero low high h = absurd (omega arith)
-occurs gates r amount (suc n) low high h =
-    elim (cases_eq amount r) [
-      | inl same ↦ (let here : list_any (turns_by amount) gates ≡ true = subst (λ a. list_any (turns_by a) gates ≡ true) (sym same) h in
-          rw here (or_left (amount == r) (list_any (λ t. t == r) (occurring gates (amount + 1) n)) (eq-eqb amount r same)))
-      | inr other ↦ (let rest = occurs gates r (amount + 1) n (omega arith) (omega arith) h in
-          cond_both (list_any (turns_by amount) gates) (amount ∷ occurring gates (amount + 1) n) (occurring gates (amount + 1) n) (λ (ts : List ℕ). list_any (λ t. t == r) ts ≡ true)
-          (λ e. or_right (amount == r) (list_any (λ t. t == r) (occurring gates (amount + 1) n)) rest) (λ e. rest))
-    ]
 
 -- what holds of each key and its amount holds of the key beside an amount that is there
 beside_all : (P : ℕ → Rows → Type 0) (r : ℕ) (turns : List ℕ) (keys : List Rows) → length keys ≡ length turns → ((j : ℕ) → j < length turns → P (get_or turns j 0) (get_or keys j []))
@@ -75,7 +63,7 @@ module _ (p : Preset) (c : Plan) (k : KeyLists) (material : IsKeyMaterial p.n p.
   turn_key_of r low high h =
       beside_all (λ t rows. IsSwitchKey p.n p.b k.s (turned p.n k.s t) rows) r (needed_turns c) (turn_keys (needs_relin c) (circuit_rows p.n c k))
       (length-turn_keys (needs_relin c) (circuit_rows p.n c k) (length (needed_turns c)) many) turn_key
-      (occurs c.gates r 1 (slots_of c.preset - 1) low (omega arith) h)
+      (any_passing (λ t. list_any (turns_by t) c.gates) 1 (slots_of c.preset - 1) r (low, omega arith, h))
 
   abbrev Occur : List Gate → Type 0
   Occur gates = (test : Gate → Bool) → list_any test gates ≡ true → list_any test c.gates ≡ true

@@ -1,9 +1,9 @@
 -- The keys that are made for a circuit, and how many it needs.
-use Rattle.std.proofs.Common.{◌≡◌, ◌≤◌, ◌+◌, ◌-◌, ◌*◌, ◌<◌, ◌∙◌, ℕ, zero, suc, Bool, true, false, List, ◌∷◌, length, refl, sym, ap, subst, arith}
+use Rattle.std.proofs.Common.{◌≡◌, ◌≤◌, ◌+◌, ◌-◌, ◌*◌, ◌<◌, ◌∙◌, ℕ, Bool, true, false, List, length, sym, ap, subst, arith}
 use Rattle.std.specs.Prelude.{if◌then◌else◌, ◌==◌, map}
-use Rattle.heco_circuit.specs.Needs.{needs_relin, needed_turns, needed_keys, occurring}
+use Rattle.std.specs.List.{list_any}
+use Rattle.heco_circuit.specs.Needs.{needs_relin, needed_turns, needed_keys, turns_by}
 use Rattle.heco_circuit.proofs.Rising.{needed_amounts}
-use Rattle.heco_circuit.specs.declared.gate.Gate.{Gate}
 use Rattle.heco_circuit.specs.Plans.{Plan as Circuit}
 use Rattle.heco_key_files.specs.KeyFiles.{eval_lists, made_key, eval_text, secret_text, lists_of as eval_lists_of}
 use Rattle.heco_keys.specs.Amounts.{AreAmounts}
@@ -12,8 +12,9 @@ use Rattle.heco_keys.specs.declared.eval.Eval.{Eval}
 use Rattle.heco_scheme.specs.Keys.{key_part}
 use Rattle.heco_material.specs.KeyLists.{KeyLists, key_count, lists_of}
 use Rattle.heco_material.specs.declared.words.KeyWords.{KeyWords}
+use Rattle.heco_nums.proofs.Amounts.{passing_few}
 use Rattle.heco_nums.proofs.PresetFacts.{facts}
-use Rattle.heco_nums.specs.Presets.{degree_of, slots_of}
+use Rattle.heco_nums.specs.Presets.{slots_of}
 use Rattle.heco_nums.specs.declared.needs.KeyNeeds.{KeyNeeds}
 use Rattle.heco_nums.specs.declared.preset.Preset.{Preset}
 use Rattle.heco_products.specs.KeyProducts.{secret_file, evaluation_file}
@@ -26,14 +27,6 @@ count_is c needs relin turns = ap (λ r. (if r then 1 else 0) + length needs.tur
 
 -- ---- how many there are
 
-pub few_occurring : (gates : List Gate) (amount n : ℕ) → length (occurring gates amount n) ≤ n
-few_occurring gates amount zero = omega arith
-few_occurring gates amount (suc n) = where_counted _ (amount) (occurring gates (amount + 1) n) n (few_occurring gates (amount + 1) n)
-  where
-    where_counted : (b : Bool) (amount : ℕ) (more : List ℕ) (n : ℕ) → length more ≤ n → length (if b then amount ∷ more else more) ≤ suc n
-    where_counted true amount more n le = omega arith
-    where_counted false amount more n le = omega arith
-
 slots_both : (b : Bool) (x y : ℕ) → x ≤ 512 → y ≤ 512 → (if b then x else y) ≤ 512
 slots_both true x y sx sy = sx
 slots_both false x y sx sy = sy
@@ -42,7 +35,7 @@ slots_few : (id : ℕ) → slots_of id ≤ 512
 slots_few id = slots_both (id == 1) 8 _ (omega arith) (slots_both (id == 2) 32 _ (omega arith) (slots_both (id == 3) 64 _ (omega arith) (slots_both (id == 4) 32 512 (omega arith) (omega arith))))
 
 pub few_turns : (c : Circuit) → length (needed_turns c) ≤ 511
-few_turns c = omega (arith, few_occurring c.gates 1 (slots_of c.preset - 1), slots_few c.preset)
+few_turns c = omega (arith, passing_few (λ r. list_any (turns_by r) c.gates) 1 (slots_of c.preset - 1), slots_few c.preset)
 
 -- ---- the keys that are made
 
