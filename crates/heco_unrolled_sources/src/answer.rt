@@ -92,3 +92,10 @@ pub fn answer_to(alloc: Global, text: &str) -> Result<String, Fail> {
     let t = typed(alloc, text)?;
     answer_of(alloc, &t)
 }
+
+/// Whether unrolling answers what a row says: a source behind its head, `|`, and the answer.
+pub fn holds(alloc: Global, head: &str, row: &str) -> Result<bool, Fail> {
+    let (source, wanted) = row.split_once('|').ok_or("no answer")?;
+    let text = format!(in alloc; "{head}{source}")?;
+    Ok(answer_to(alloc, text.as_str())?.as_str() == wanted)
+}

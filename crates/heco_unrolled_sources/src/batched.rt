@@ -43,9 +43,22 @@ fn told_of(alloc: Global, text: &str) -> Result<(bool, u32), Fail> {
     told(alloc, &t)
 }
 
+// A source, and its nodes: the input, its negative, that turned, and their sum; so too by a call, and one product more
+// where the definition is called twice.
+const ROWS: &str = "fn f(in a[4], out y[3]) { for i in 0..3 { y[i] = a[i+1] - a[i]; } }|4
+def d(x, z) = x - z; fn f(in a[4], out y[3]) { for i in 0..3 { y[i] = d(a[i+1], a[i]); } }|4
+def d(x, z) = x - z; fn f(in a[4], out y[3]) { for i in 0..3 { y[i] = d(a[i+1], a[i]) * d(a[i+1], a[i]); } }|5";
+
+fn holds(alloc: Global, row: &str) -> Result<bool, Fail> {
+    let (source, wanted) = row.split_once('|').ok_or("no count")?;
+    let text = format!(in alloc; "params p8; {source}")?;
+    Ok(told_of(alloc, text.as_str())? == (true, wanted.parse::<u32>()?))
+}
+
 #[test]
 fn differences_of_neighbours_share_their_nodes(rt: HostRuntime) -> Result<(), Fail> {
-    let text = "params p8; fn f(in a[4], out y[3]) { for i in 0..3 { y[i] = a[i+1] - a[i]; } }";
-    assert_eq!(rt; told_of(rt.alloc(), text)?, (true, 4));
+    for row in ROWS.lines() {
+        assert!(rt; holds(rt.alloc(), row)?, "{row}");
+    }
     Ok(())
 }

@@ -6,6 +6,8 @@ mod answer;
 #[cfg(test)]
 mod batched;
 #[cfg(test)]
+mod definitions;
+#[cfg(test)]
 mod limits;
 #[cfg(test)]
 mod rows;

@@ -30,7 +30,7 @@ fn long_source(alloc: Global, last: &str) -> Result<String, Fail> {
     let mut text = String::new(alloc);
     put_field(
         &mut text,
-        "params p8;~fn f(in x, in a[7], out y) {~for i in 0..4095 { @ }~",
+        "params p8; def n(x) = -x;~fn f(in x, in a[7], out y) {~for i in 0..4095 { @ }~",
     )?;
     put_field(&mut text, last)?;
     put_field(&mut text, "~}")?;
@@ -62,10 +62,20 @@ fn as_many_steps_as_there_may_be(rt: HostRuntime) -> Result<(), Fail> {
     Ok(())
 }
 
+// The declaration counts 60 steps, the statement one, its call one, and the definition's operator one.
+#[test]
+fn as_many_steps_as_there_may_be_with_a_call(rt: HostRuntime) -> Result<(), Fail> {
+    let found = counts_behind(rt.alloc(), "secret q[59]; y = n(x);")?;
+    assert_eq!(rt; found, (8 + 4095 * 124 + 1, 1));
+    Ok(())
+}
+
 // What stands behind the loop, and what unrolling answers.
 const ROWS: &str = "y = x * a[7];|4:9: IndexRange
 y = 1; int k = 65536*65536;|4:21: PublicRange
-@~y = 1;|5:1: TooLarge";
+@~y = 1;|5:1: TooLarge
+secret q[60];~y = n(x);|1:23: TooLarge
+secret q[61];~y = n(x);|5:5: TooLarge";
 
 fn holds(alloc: Global, row: &str) -> Result<bool, Fail> {
     let (last, wanted) = row.split_once('|').ok_or("no answer")?;

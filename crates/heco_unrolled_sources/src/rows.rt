@@ -1,5 +1,4 @@
-use crate::answer::answer_to;
-use std::alloc::Global;
+use crate::answer::holds;
 use std::test::Fail;
 
 // The source behind `params p8; fn `, and the terms of its output elements or the broken rule. `0[1]` is element 1 of
@@ -22,17 +21,10 @@ f(in a[8], out y) { y = a[8]; }|1:39: IndexRange
 f(in a[8], out y) { y = a[0] * a[1] + a[0-1]; }|1:53: IndexRange
 f(in x, out y) { y = x + 65536*65536*x; }|1:45: PublicRange";
 
-// Whether unrolling answers what the row says.
-fn holds(alloc: Global, row: &str) -> Result<bool, Fail> {
-    let (source, wanted) = row.split_once('|').ok_or("no answer")?;
-    let text = format!(in alloc; "params p8; fn {source}")?;
-    Ok(answer_to(alloc, text.as_str())?.as_str() == wanted)
-}
-
 #[test]
 fn each_source_has_its_terms(rt: HostRuntime) -> Result<(), Fail> {
     for row in ROWS.lines() {
-        assert!(rt; holds(rt.alloc(), row)?, "{row}");
+        assert!(rt; holds(rt.alloc(), "params p8; fn ", row)?, "{row}");
     }
     Ok(())
 }
