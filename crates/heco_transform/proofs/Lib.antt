@@ -7,6 +7,7 @@ pub mod HalfLaws
 pub mod ImageLaws
 pub mod LimbLaws
 pub mod Parts
+pub mod Quarters
 pub mod Residues
 pub mod Roots
 pub mod Steps

@@ -1,35 +1,37 @@
 -- One step down the tree and one step up.
-use Prim.Native.Nat.{ℕ, ◌+◌, ◌-◌, ◌*◌, ◌^◌, ◌<◌, ◌≤◌}
+use Prim.Native.Nat.{ℕ, suc, ◌+◌, ◌-◌, ◌*◌, ◌^◌, ◌<◌, ◌≤◌}
 use lib.IntN.{ℤ, pos, negsuc, ◌+ℤ◌, ◌*ℤ◌, neg_ℤ}
 use lib.ListN.{length, get_or}
 use mathlib.Core.List.{List, ◌++◌}
 use mathlib.Core.Logic.{inl, inr}
 use mathlib.Core.Path.{◌≡◌, ap, subst}
-use native.Mathlib.Nat.{one-le-pow}
+use native.Mathlib.Nat.{one-le-pow, pow-suc}
 use native.Mathlib.Omega.{arith}
+use Rattle.std.proofs.Common.{length-append}
 use Rattle.std.proofs.lemmas.Bool.{cases_lt}
 use Rattle.std.proofs.lemmas.List.{get_or_append_left, get_or-append_right}
+use Rattle.heco_ring.proofs.Congruence.{same_refl}
 use Rattle.heco_ring.proofs.Integers.{lines, z_one_mul, monomials}
 use Rattle.heco_ring.proofs.Linear.{at-scale}
 use Rattle.heco_ring.proofs.Remainders.{cong_add, cong_mul, cong_refl, cong_neg, cong_trans, cong_sym}
 use Rattle.heco_ring.proofs.Wrapping.{at-wholes}
 use Rattle.heco_ring.specs.Remainders.{Cong, Same}
 use Rattle.heco_ring.specs.Ring.{at, wholes, scale, times}
-use Rattle.heco_transform.specs.Values.{power, value_at, node, RootTree, Values, fold}
+use Rattle.heco_transform.specs.Values.{power, value_at, node, RootTree, Values, fold, FoldedTwice}
 use Rattle.heco_transform.proofs.Folds.{at-fold, value_same, value_fold, value_times}
-use Rattle.heco_transform.proofs.Tree.{leaf_power, root_1}
+use Rattle.heco_transform.proofs.Tree.{leaf_power, root_1, node_left, node_right}
 
 -- at a leaf under node c, the value of a is that of its fold by the root of c
 child : (p d c k : ℕ) (t : List ℕ) (a : List ℤ) → RootTree p t → 0 < c → 2 ^ d * c + 2 ^ d ≤ 2 * length t → k < 2 ^ d → Cong p (value_at (2 ^ d + 2 ^ d) a (node t (2 ^ d * c + k))) (value_at (2 ^ d) (fold (2 ^ d) (node t c) a) (node t (2 ^ d * c + k)))
 child p d c k t a r h b l = value_fold p (2 ^ d) (node t c) a (node t (2 ^ d * c + k)) (leaf_power p d c k t r h l (omega arith))
 
 -- ---- down
-values_child : (p d c k : ℕ) (t : List ℕ) (a : List ℤ) (low v : List ℕ) → RootTree p t → 0 < c → 2 ^ d * c + 2 ^ d ≤ 2 * length t → Same p (2 ^ d) (wholes low) (fold (2 ^ d) (node t c) a) → Values p (2 ^ d) c t (wholes low) v → k < 2 ^ d → Cong p (pos (get_or v k 0)) (value_at (2 ^ d + 2 ^ d) a (node t (2 ^ d * c + k)))
+values_child : (p d c k : ℕ) (t : List ℕ) (a low : List ℤ) (v : List ℕ) → RootTree p t → 0 < c → 2 ^ d * c + 2 ^ d ≤ 2 * length t → Same p (2 ^ d) low (fold (2 ^ d) (node t c) a) → Values p (2 ^ d) c t low v → k < 2 ^ d → Cong p (pos (get_or v k 0)) (value_at (2 ^ d + 2 ^ d) a (node t (2 ^ d * c + k)))
 values_child p d c k t a low v r h b s w l =
     let x : ℤ = node t (2 ^ d * c + k) in
-    cong_trans p (pos (get_or v k 0)) (value_at (2 ^ d) (wholes low) x) (value_at (2 ^ d + 2 ^ d) a x) (w.each k l)
-    (cong_trans p (value_at (2 ^ d) (wholes low) x) (value_at (2 ^ d) (fold (2 ^ d) (node t c) a) x) (value_at (2 ^ d + 2 ^ d) a x)
-    (value_same p (2 ^ d) (wholes low) (fold (2 ^ d) (node t c) a) x s)
+    cong_trans p (pos (get_or v k 0)) (value_at (2 ^ d) low x) (value_at (2 ^ d + 2 ^ d) a x) (w.each k l)
+    (cong_trans p (value_at (2 ^ d) low x) (value_at (2 ^ d) (fold (2 ^ d) (node t c) a) x) (value_at (2 ^ d + 2 ^ d) a x)
+    (value_same p (2 ^ d) low (fold (2 ^ d) (node t c) a) x s)
     (cong_sym p (value_at (2 ^ d + 2 ^ d) a x) (value_at (2 ^ d) (fold (2 ^ d) (node t c) a) x) (child p d c k t a r h b l)))
 
 -- two lists of h values are those of a node
@@ -43,12 +45,34 @@ joined p h i t a v w n f g = record {
   ];
 }
 
-pub forward_step : (p d i : ℕ) (t : List ℕ) (a : List ℤ) (low high v w : List ℕ) → RootTree p t → 0 < i → 2 ^ d * (2 * i) + 2 ^ d + 2 ^ d ≤ 2 * length t → length v ≡ 2 ^ d →
-    Same p (2 ^ d) (wholes low) (fold (2 ^ d) (node t (2 * i)) a) → Same p (2 ^ d) (wholes high) (fold (2 ^ d) (node t (2 * i + 1)) a) →
-    Values p (2 ^ d) (2 * i) t (wholes low) v → Values p (2 ^ d) (2 * i + 1) t (wholes high) w → Values p (2 ^ d + 2 ^ d) i t a (v ++ w)
+pub forward_step : (p d i : ℕ) (t : List ℕ) (a low high : List ℤ) (v w : List ℕ) → RootTree p t → 0 < i → 2 ^ d * (2 * i) + 2 ^ d + 2 ^ d ≤ 2 * length t → length v ≡ 2 ^ d →
+    Same p (2 ^ d) low (fold (2 ^ d) (node t (2 * i)) a) → Same p (2 ^ d) high (fold (2 ^ d) (node t (2 * i + 1)) a) →
+    Values p (2 ^ d) (2 * i) t low v → Values p (2 ^ d) (2 * i + 1) t high w → Values p (2 ^ d + 2 ^ d) i t a (v ++ w)
 forward_step p d i t a low high v w r h b n sl sh vl vh = joined p (2 ^ d) i t a v w n
     (λ k l. values_child p d (2 * i) k t a low v r (omega arith) (omega arith) sl vl l)
     (λ k l. values_child p d (2 * i + 1) k t a high w r (omega arith) (omega arith) sh vh l)
+
+-- two levels at once, by the exact polynomials between them
+pub forward_two_steps : (p d i : ℕ) (t : List ℕ) (a : List ℤ) (w x y z w' x' y' z' : List ℕ) → RootTree p t → 0 < i → 2 ^ d * (4 * i) + 4 * 2 ^ d ≤ 2 * length t → length w' ≡ 2 ^ d → length x' ≡ 2 ^ d → length y' ≡ 2 ^ d →
+    FoldedTwice p (2 ^ d) (get_or t i 0) (get_or t (2 * i) 0) (get_or t (2 * i + 1) 0) a w x y z →
+    Values p (2 ^ d) (4 * i) t (wholes w) w' → Values p (2 ^ d) (4 * i + 1) t (wholes x) x' → Values p (2 ^ d) (4 * i + 2) t (wholes y) y' → Values p (2 ^ d) (4 * i + 3) t (wholes z) z' →
+    Values p (2 ^ d + 2 ^ d + (2 ^ d + 2 ^ d)) i t a ((w' ++ x') ++ (y' ++ z'))
+forward_two_steps p d i t a w x y z w' x' y' z' r h b nw nx ny f vw vx vy vz =
+    let e : 2 ^ suc d ≡ 2 ^ d + 2 ^ d = omega (arith, pow-suc 2 d) in
+    let i0 : 2 * (2 * i) ≡ 4 * i = omega arith in
+    let i1 : 2 * (2 * i) + 1 ≡ 4 * i + 1 = omega arith in
+    let i2 : 2 * (2 * i + 1) ≡ 4 * i + 2 = omega arith in
+    let i3 : 2 * (2 * i + 1) + 1 ≡ 4 * i + 3 = omega arith in
+    let low : Values p (2 ^ d + 2 ^ d) (2 * i) t (fold (2 ^ d + 2 ^ d) (node t (2 * i)) a) (w' ++ x') =
+    forward_step p d (2 * i) t (fold (2 ^ d + 2 ^ d) (node t (2 * i)) a) (wholes w) (wholes x) w' x' r (omega arith) (omega arith) nw
+    (rw (node_left t (2 * i), node_left t i) (f.first)) (rw (node_right t (2 * i), node_left t i) (f.second)) (rw i0 vw) (rw i1 vx) in
+    let high : Values p (2 ^ d + 2 ^ d) (2 * i + 1) t (fold (2 ^ d + 2 ^ d) (node t (2 * i + 1)) a) (y' ++ z') =
+    forward_step p d (2 * i + 1) t (fold (2 ^ d + 2 ^ d) (node t (2 * i + 1)) a) (wholes y) (wholes z) y' z' r (omega arith) (omega arith) ny
+    (rw (node_left t (2 * i + 1), node_right t i) (f.third)) (rw (node_right t (2 * i + 1), node_right t i) (f.fourth)) (rw i2 vy) (rw i3 vz) in
+    let long : length (w' ++ x') ≡ 2 ^ suc d = omega (arith, e, length-append w' x') in
+    let inside : 2 ^ suc d * (2 * i) + 2 ^ suc d + 2 ^ suc d ≤ 2 * length t = rw e (omega arith) in
+    rw e at (forward_step p (suc d) i t a (fold (2 ^ suc d) (node t (2 * i)) a) (fold (2 ^ suc d) (node t (2 * i + 1)) a) (w' ++ x') (y' ++ z') r h inside long
+    (same_refl p (2 ^ suc d) (fold (2 ^ suc d) (node t (2 * i)) a)) (same_refl p (2 ^ suc d) (fold (2 ^ suc d) (node t (2 * i + 1)) a)) (rw e low) (rw e high))
 
 -- ---- up
 -- the values of a are the values of its folds

@@ -40,6 +40,23 @@ children_inside d i n h b = inner (2 ^ d) (2 ^ (d - 1)) (halves d h) b
     inner : (m g : ℕ) → m ≡ g + g → m * i + m ≤ 2 * n → g * (2 * i) + g + g ≤ 2 * n
     inner m g e b = let f : m * i ≡ g * (2 * i) = rw e (omega arith) in omega arith
 
+-- ---- two levels at once
+pub fours : (d : ℕ) → 2 ≤ d → 2 ^ d ≡ 2 ^ (d - 2) + 2 ^ (d - 2) + (2 ^ (d - 2) + 2 ^ (d - 2))
+fours d h = let e : d ≡ suc (suc (d - 2)) = omega arith in ap (λ (x : ℕ). 2 ^ x) e ∙ omega (arith, pow-suc 2 (suc (d - 2)), pow-suc 2 (d - 2))
+
+pub nodes_inside : (d i n : ℕ) → 2 ≤ d → 2 ^ d * i + 2 ^ d ≤ 2 * n → 2 * i + 2 ≤ n
+nodes_inside d i n h b = inner (2 ^ d) (2 ^ (d - 2)) (fours d h) (power_positive (d - 2)) b
+  where
+    inner : (m q : ℕ) → m ≡ q + q + (q + q) → 0 < q → m * i + m ≤ 2 * n → 2 * i + 2 ≤ n
+    inner m q e p b = let f : m * i ≡ 4 * (q * i) = rw e (omega arith) in let l : i * 1 ≤ i * q = mul-le-mul_left i p in omega arith
+
+-- the leaves under the four grandchildren are those under the node
+pub grandchildren_inside : (d i n : ℕ) → 2 ≤ d → 2 ^ d * i + 2 ^ d ≤ 2 * n → 2 ^ (d - 2) * (4 * i) + 4 * 2 ^ (d - 2) ≤ 2 * n
+grandchildren_inside d i n h b = inner (2 ^ d) (2 ^ (d - 2)) (fours d h) b
+  where
+    inner : (m q : ℕ) → m ≡ q + q + (q + q) → m * i + m ≤ 2 * n → q * (4 * i) + 4 * q ≤ 2 * n
+    inner m q e b = let f : m * i ≡ q * (4 * i) = rw e (omega arith) in omega arith
+
 -- the value of a constant
 pub values_leaf : (p i : ℕ) (t : List ℕ) (a : List ℕ) → Values p 1 i t (wholes a) a
 unfolding value_at sum_z power
@@ -67,6 +84,9 @@ back_below b i a low high e h l =
     let m : length low + i - length low ≡ i = omega arith in
     let s : get_or a (length low + i) 0 ≡ get_or high i 0 = rw (e, get_or-append_right low high (length low) (length low + i) 0 refl g, m) refl in
     omega (arith, h (length low + i) (omega (arith, ap length e, length-append low high)))
+
+pub first_below : (b i : ℕ) (a low high first second : List ℕ) → a ≡ low ++ high → low ≡ first ++ second → ((k : ℕ) → k < length a → get_or a k 0 < b) → i < length first → get_or first i 0 < b
+first_below b i a low high first second e f h l = front_below b i low first second f (λ k m. front_below b k a low high e h m) l
 
 -- two bit_fields that are small
 pub both_below : (b : ℕ) (low high : List ℕ) → ((k : ℕ) → k < length low → get_or low k 0 < b) → ((k : ℕ) → k < length high → get_or high k 0 < b) → (k : ℕ) → k < length (low ++ high) → get_or (low ++ high) k 0 < b

@@ -8,7 +8,7 @@ use crate::residue::times;
 use crate::{Factor, P};
 
 /// x + s y and x - s y.
-fn forward_butterfly(x: u64, y: u64, s: Factor) -> (u64, u64)
+pub fn forward_butterfly(x: u64, y: u64, s: Factor) -> (u64, u64)
     requires { x < 2 ^ 62 }
     ensures sum { Cong P (pos result.0) (pos x +ℤ pos s *ℤ pos y) }
     ensures difference { Cong P (pos result.1) (pos x +ℤ neg_ℤ (pos s) *ℤ pos y) }
