@@ -4,3 +4,7 @@ pub mod Terms
 pub mod TwoRows
 pub mod SlotsInRow
 pub mod BothRows
+pub mod Spreads
+pub mod OneRow
+pub mod WeighedSlots
+pub mod Weights

@@ -2,15 +2,13 @@
 use Prim.Native.Nat.{ℕ, suc, ◌+◌, ◌*◌, ◌-◌, ◌%◌, ◌^◌, ◌<◌, ◌≤◌}
 use native.Mathlib.Omega.{arith}
 use native.Mathlib.Nat.{mod-mod}
-use mathlib.Core.Path.{◌≡◌, sym, ap, ◌∙◌}
+use mathlib.Core.Path.{◌≡◌, sym, ◌∙◌}
 use mathlib.Core.List.{List}
 use lib.IntN.{ℤ, pos, ◌*ℤ◌}
-use lib.ListN.{get_or}
-use Rattle.std.proofs.lemmas.Nat.{mul-le, mul-mod, mul-mod_second}
+use Rattle.std.proofs.lemmas.Nat.{mul-le, mul-mod_second}
 use Rattle.heco_ring.specs.Remainders.{rem, Cong}
 use Rattle.heco_ring.specs.Ring.{sum_z, at, wholes}
-use Rattle.heco_ring.specs.Slots.{value, slot, encode_at}
-use Rattle.heco_ring.proofs.Integers.{z_mul_comm}
+use Rattle.heco_ring.specs.Slots.{value, slot}
 use Rattle.heco_ring.proofs.Remainders.{cong_add, cong_mul, cong_refl, cong_self, cong_trans, rem_cong, rem_nat, minus_one}
 use Rattle.heco_ring.proofs.SlotLaws.{power_flip, same_turn}
 
@@ -42,22 +40,10 @@ below_turn t z n x y e h p r d f = rw (f, ← (rem_nat t (z ^ x))) (cong_trans t
 pub power_at : (t z n k j g y : ℕ) → 0 < t → 0 < n → z ^ n % t ≡ t - 1 → g ≡ 3 ^ j % (2 * n) → y ≡ z ^ (k * g % (2 * n)) % t → Cong t (pos y) (pos (z ^ (k * 3 ^ j)))
 power_at t z n k j g y h p r d e = below_turn t z n (k * g % (2 * n)) y (k * 3 ^ j) h p r (mod-mod (k * g) (2 * n) ∙ rw d (mul-mod_second k (3 ^ j) (2 * n))) e
 
--- for coefficient k: b is -k modulo 2n
-pub power_back : (t z n k j b g y : ℕ) → 0 < t → 0 < n → z ^ n % t ≡ t - 1 → b ≡ (2 * n - 1) * k % (2 * n) → g ≡ 3 ^ j % (2 * n) → y ≡ z ^ (b * g % (2 * n)) % t → Cong t (pos y) (pos (z ^ ((2 * n - 1) * (k * 3 ^ j))))
-power_back t z n k j b g y h p r c d e = below_turn t z n (b * g % (2 * n)) y ((2 * n - 1) * (k * 3 ^ j)) h p r (mod-mod (b * g) (2 * n) ∙ rw (c, d) (exponent (2 * n) (2 * n - 1) k (3 ^ j))) e
-  where
-    exponent : (m a k x : ℕ) → (a * k % m) * (x % m) % m ≡ (a * (k * x)) % m
-    exponent m a k x = sym (mul-mod (a * k) x m) ∙ ap (λ y. y % m) (omega arith)
-
 -- ---- the last remainder
+pub summed_rem : (t N s : ℕ) (f : ℕ → ℤ) → 0 < t → Summed t N s f → s % t ≡ rem t (sum_z N f)
+summed_rem t N s f h S = sym (rem_nat t s) ∙ rem_cong t (pos s) (sum_z N f) h S.same
+
 pub summed_slot : (n t z j s : ℕ) (m : List ℕ) → 0 < t → Summed t n s (λ k. at (wholes m) k *ℤ pos (z ^ (k * 3 ^ j))) → s % t ≡ slot n t z (wholes m) j
 unfolding slot value
-summed_slot n t z j s m h S = sym (rem_nat t s) ∙ rem_cong t (pos s) (sum_z n (λ k. at (wholes m) k *ℤ pos (z ^ (k * 3 ^ j)))) h S.same
-
-pub summed_coefficient : (n t z ninv N k s : ℕ) (v : List ℕ) → 0 < t → Summed t N s (λ j. pos (get_or v j 0) *ℤ pos (z ^ ((2 * n - 1) * (k * 3 ^ j)))) → s % t * ninv % t ≡ encode_at n t z ninv N v k
-unfolding encode_at
-summed_coefficient n t z ninv N k s v h S =
-    let f : ℕ → ℤ = λ j. pos (get_or v j 0) *ℤ pos (z ^ ((2 * n - 1) * (k * 3 ^ j))) in
-    let c : Cong t (pos (s % t)) (sum_z N f) = rw (← (rem_nat t s)) (cong_trans t (pos (rem t (pos s))) (pos s) (sum_z N f) (cong_self t (pos s) h) S.same) in
-    sym (rem_nat t (s % t * ninv)) ∙ rem_cong t (pos (s % t) *ℤ pos ninv) (pos ninv *ℤ sum_z N f) h
-    (rw (z_mul_comm (pos ninv) (sum_z N f)) (cong_mul t (pos (s % t)) (sum_z N f) (pos ninv) (pos ninv) c (cong_refl t (pos ninv))))
+summed_slot n t z j s m h S = summed_rem t n s (λ k. at (wholes m) k *ℤ pos (z ^ (k * 3 ^ j))) h S

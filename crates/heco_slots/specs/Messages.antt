@@ -5,6 +5,7 @@ use lib.IntN.{pos}
 use Rattle.heco_nums.specs.declared.preset.Preset.{Preset}
 use Rattle.heco_ring.specs.Remainders.{reduced}
 use Rattle.heco_ring.specs.Ring.{wholes, plus, negate, scale, times, turn, constant}
+use Rattle.heco_slots.specs.Rows.{encoded_two}
 
 unfoldable pub sum : Preset → List ℕ → List ℕ → List ℕ
 sum p a b = reduced p.t p.n (plus p.n (wholes a) (wholes b))
@@ -28,6 +29,10 @@ raised p c a = reduced p.t p.n (plus p.n (wholes a) (constant p.n (pos c)))
 
 unfoldable pub product : Preset → List ℕ → List ℕ → List ℕ
 product p a b = reduced p.t p.n (times p.n (wholes a) (wholes b))
+
+-- times the plaintext with the N slots v in both rows
+unfoldable pub weighed : Preset → List ℕ → List ℕ → List ℕ
+weighed p v a = product p (encoded_two p v v) a
 
 -- the turn by 3^r
 unfoldable pub turned : Preset → ℕ → List ℕ → List ℕ

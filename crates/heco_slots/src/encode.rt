@@ -1,27 +1,20 @@
 ghost use Rattle.std.specs.Prelude.{◌≡◌, ◌<◌, All, length};
 
-use crate::{SlotTable, term};
+use crate::SlotTable;
 
 impl SlotTable {
     ghost use Rattle.heco_ring.specs.Slots.{encode_at};
     ghost use Rattle.heco_slots.specs.Slots.{encoded};
 
-    /// Coefficient k: (1/n) times the sum of v_j zeta^(-k 3^j), modulo t. 2n is a power of two.
+    /// Coefficient k: (1/n) times the sum of v_j zeta^(-k 3^j), modulo t.
     fn coefficient(&self, v: &[u32], k: usize) -> u32
         requires long { length v.now ≡ self.now.preset.slots }
         requires below { All (λ x. x < self.now.preset.t) v.now }
         requires inside { k < self.now.preset.n }
         ensures { let p = self.now.preset in result ≡ encode_at p.n p.t p.zeta p.ninv p.slots v.now k }
     {
-        let last = 2 * self.preset.n as usize - 1;
-        let t = u64::from(self.preset.t);
-        let back = last * k & last;
-        let mut sum = 0;
-        for j in 0..v.len() {
-            let place = back * self.places[j] as usize & last;
-            sum = term::add_term(sum, v[j], self.powers[place]);
-        }
-        (sum % t * u64::from(self.preset.ninv) % t) as u32
+        let sum = self.spread(v, self.back(k));
+        self.over_n(u64::from(sum))
     }
 
     /// The plaintext whose slots are v, into out.

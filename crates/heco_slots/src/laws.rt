@@ -1,6 +1,6 @@
-ghost use Rattle.std.specs.Prelude.{◌≡◌, ◌<◌, ◌+◌, ◌-◌, ◌*◌, ◌%◌, ℕ, List, All, length, slice_index};
+ghost use Rattle.std.specs.Prelude.{◌≡◌, ◌<◌, ◌+◌, ◌-◌, ◌*◌, ◌%◌, ℕ, List, All, length, replicate, slice_index};
 ghost use Rattle.heco_nums.specs.declared.preset.Preset.{Preset};
-ghost use Rattle.heco_slots.specs.Messages.{sum, difference, opposite, multiple, constant_of, raised, product, turned};
+ghost use Rattle.heco_slots.specs.Messages.{sum, difference, opposite, multiple, constant_of, raised, product, weighed, turned};
 ghost use Rattle.heco_slots.specs.Rows.{first_row, second_row, slot_in, row_of, encoded_two};
 ghost use Rattle.heco_slots.specs.Slots.{slot_of, decoded, encoded};
 
@@ -23,6 +23,13 @@ pub fn slots_of_the_decoded()
 pub fn both_rows_come_back()
     ensures first { (p : Preset) (v w : List ℕ) → length v ≡ p.slots → All (λ x. x < p.t) v → row_of p first_row (encoded_two p v w) ≡ v }
     ensures second { (p : Preset) (v w : List ℕ) → length w ≡ p.slots → All (λ x. x < p.t) w → row_of p (second_row p) (encoded_two p v w) ≡ w }
+{}
+
+/// Zeros in the second row add nothing: what is encoded in the first row alone has zeros in the second.
+#[tactic(auto, using(crate::proofs::OneRow::encoded_beside_zeros, crate::proofs::OneRow::second_is_zero))]
+pub fn one_row_leaves_the_other()
+    ensures zeros { (p : Preset) (v w : List ℕ) → All (λ x. x ≡ 0) w → encoded_two p v w ≡ encoded p v }
+    ensures second { (p : Preset) (v : List ℕ) → row_of p (second_row p) (encoded p v) ≡ replicate p.slots 0 }
 {}
 
 /// In every row the slots of a sum are the sums.
@@ -60,6 +67,13 @@ pub fn slots_of_a_constant()
 #[tactic(auto, using(crate::proofs::SlotsInRow::in_product))]
 pub fn slots_of_a_product()
     ensures { (p : Preset) (e : ℕ) (a b : List ℕ) (j : ℕ) → e % 2 ≡ 1 → slot_in p e (product p a b) j ≡ slot_in p e a j * slot_in p e b j % p.t }
+{}
+
+/// In both rows the slots of what v weighs are the products by v, place by place.
+#[tactic(auto, using(crate::proofs::WeighedSlots::first_weighed, crate::proofs::WeighedSlots::second_weighed))]
+pub fn slots_of_the_weighed()
+    ensures first { (p : Preset) (v a : List ℕ) (j : ℕ) → length v ≡ p.slots → All (λ x. x < p.t) v → j < p.slots → slot_in p first_row (weighed p v a) j ≡ slice_index v j * slot_in p first_row a j % p.t }
+    ensures second { (p : Preset) (v a : List ℕ) (j : ℕ) → length v ≡ p.slots → All (λ x. x < p.t) v → j < p.slots → slot_in p (second_row p) (weighed p v a) j ≡ slice_index v j * slot_in p (second_row p) a j % p.t }
 {}
 
 /// In every row, e being odd, the turn by 3^r brings slot j + r to slot j, and the slots go round after N.

@@ -1,40 +1,6 @@
-use Rattle.std.proofs.Common.{◌≡◌, ◌<◌, ◌*◌, ◌-◌, ◌%◌, ◌^◌, ℕ, get_or, bit_and, arith, refl, subst}
-use lib.IntN.{ℤ, pos, ◌*ℤ◌}
-use Rattle.heco_nums.proofs.PresetFacts.{facts}
-use Rattle.heco_slots.proofs.Tables.{and_last, entry, entry_masked, entry_below}
-use Rattle.heco_slots.proofs.Terms.{Summed, summed_none, summed_more, summed_coefficient, power_back}
+use Rattle.std.proofs.Common.{◌∙◌}
+use Rattle.heco_slots.proofs.Spreads.{coefficient_is}
 use Rattle.heco_slots.proofs.table.SlotTable.coefficient.Goals as goal
 
-pub loop-j-init : goal.loop-j-init
-loop-j-init c = let p = c.args.self.now.preset in summed_none p.t (λ j. pos (get_or c.args.v.now j 0) *ℤ pos (p.zeta ^ ((2 * p.n - 1) * (c.args.k * 3 ^ j))))
-
-pub add_term-sum-requires-clause-y : goal.add_term-sum-requires-clause-y
-add_term-sum-requires-clause-y c =
-    let p = c.args.self.now.preset in
-    let F = facts p in
-    let b : ℕ = bit_and ((2 * p.n - 1) * c.args.k) (2 * p.n - 1) in
-    let x : ℕ = b * c.index.result.now in
-    let y : c.index-in-loop-j.result.now < p.t = entry_below p.zeta p.t (x % (2 * p.n)) c.index-in-loop-j.result.now F.t_pos (entry_masked p.zeta p.t p.n F.depth x c.index-in-loop-j.result.now c.args.self.now.powers.items F.n_power F.n_pos c.args.self.now.of_zeta c.index-in-loop-j.ensures) in
-    omega (arith, F.t_small, y)
-
-pub loop-j-preserved : goal.loop-j-preserved
-loop-j-preserved c =
-    let p = c.args.self.now.preset in
-    let F = facts p in
-    let j : ℕ = c.loop-j.j in
-    let g : ℕ = c.index.result.now in
-    let y : ℕ = c.index-in-loop-j.result.now in
-    let b : ℕ = bit_and ((2 * p.n - 1) * c.args.k) (2 * p.n - 1) in
-    let f : ℕ → ℤ = λ j. pos (get_or c.args.v.now j 0) *ℤ pos (p.zeta ^ ((2 * p.n - 1) * (c.args.k * 3 ^ j))) in
-    let jn : j < p.slots = omega (arith, c.loop-j-test.true, c.requires.long) in
-    let gi : g ≡ 3 ^ j % (2 * p.n) = entry 3 (2 * p.n) p.slots j g c.args.self.now.places.items c.args.self.now.of_three jn c.index.ensures in
-    let yi : y ≡ p.zeta ^ (b * g % (2 * p.n)) % p.t = entry_masked p.zeta p.t p.n F.depth (b * g) y c.args.self.now.powers.items F.n_power F.n_pos c.args.self.now.of_zeta c.index-in-loop-j.ensures in
-    summed_more p.t j c.loop-j.sum (get_or c.args.v.now j 0) y c.add_term-sum.result (pos (p.zeta ^ ((2 * p.n - 1) * (c.args.k * 3 ^ j)))) f F.t_small (c.requires.below j 0 c.loop-j-test.true) (entry_below p.zeta p.t (b * g % (2 * p.n)) y F.t_pos yi) c.loop-j.invariant refl
-    (power_back p.t p.zeta p.n c.args.k j b g y F.t_pos F.n_pos F.minus_one (and_last p.n F.depth ((2 * p.n - 1) * c.args.k) F.n_power) gi yi) c.add_term-sum.ensures
-
 pub returns : goal.returns
-returns c =
-    let p = c.args.self.now.preset in
-    let f : ℕ → ℤ = λ j. pos (get_or c.args.v.now j 0) *ℤ pos (p.zeta ^ ((2 * p.n - 1) * (c.args.k * 3 ^ j))) in
-    let e : c.loop-j.j ≡ p.slots = omega (arith, c.loop-j-test.false, c.loop-j.auto.j-end, c.requires.long) in
-    rw (c.from-t.ensures, c.from.ensures) (summed_coefficient p.n p.t p.zeta p.ninv p.slots c.args.k c.loop-j.sum c.args.v.now (facts p).t_pos (subst (λ (i : ℕ). Summed p.t i c.loop-j.sum f) e c.loop-j.invariant))
+returns c = c.over_n.ensures ∙ rw (c.from.ensures, c.spread-sum.ensures.value) (coefficient_is c.args.self.now.preset c.args.v.now c.args.k c.back.result c.back.ensures.value)

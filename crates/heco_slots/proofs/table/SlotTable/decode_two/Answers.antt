@@ -1,4 +1,4 @@
-use Rattle.std.proofs.Common.{◌≡◌, ◌<◌, ◌*◌, ◌-◌, ◌%◌, ◌^◌, ◌∙◌, ℕ, List, length, slice_set, sym, arith}
+use Rattle.std.proofs.Common.{◌≡◌, ◌<◌, ◌*◌, ◌-◌, ◌%◌, ◌^◌, ◌∙◌, ℕ, List, length, arith}
 use Rattle.std.proofs.lemmas.List.{length-set}
 use Rattle.heco_slots.specs.Rows.{slot_in}
 use Rattle.heco_slots.proofs.Tables.{entry}
