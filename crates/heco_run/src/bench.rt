@@ -54,8 +54,8 @@ fn parts_made(store: &Vec<Option<Ct>>, gate: Gate) -> u32
     }
 }
 
-/// A buffer for what the gate makes.
-fn buffer(alloc: Global, p: &Preset, store: &Vec<Option<Ct>>, gate: Gate) -> Result<Ct, Memory>
+/// A buffer for what the gate makes of the store's ciphertexts; Memory where there is none.
+pub fn buffer(alloc: Global, p: &Preset, store: &Vec<Option<Ct>>, gate: Gate) -> Result<Ct, Memory>
     requires found { IsSome (gathered (entry store.now.items) (operands_of gate)) }
     requires store { (wire : ℕ) (c : Ciphertext) → entry store.now.items wire ≡ Some c → IsCiphertext p.now.n c }
     ensures { IfOk result (λ out. (xs : List Ciphertext) → gathered (entry store.now.items) (operands_of gate) ≡ Some xs → IsShaped p.now.n (made_parts gate xs) out) }
@@ -65,7 +65,7 @@ fn buffer(alloc: Global, p: &Preset, store: &Vec<Option<Ct>>, gate: Gate) -> Res
 }
 
 /// Makes the gate of the store's ciphertexts into the buffer.
-fn make(gates: &mut Gates, e: &Eval, gate: Gate, store: &Vec<Option<Ct>>, out: &mut Ct)
+pub fn make_gate(gates: &mut Gates, e: &Eval, gate: Gate, store: &Vec<Option<Ct>>, out: &mut Ct)
     requires preset { gates.old.preset ≡ e.now.preset }
     requires found { IsSome (gathered (entry store.now.items) (operands_of gate)) }
     requires store { (wire : ℕ) (c : Ciphertext) → entry store.now.items wire ≡ Some c → IsCiphertext e.now.preset.n c }
@@ -187,7 +187,7 @@ impl Bench {
         let Some(mut out) = self.room[worker as usize].take() else {
             return;
         };
-        make(&mut self.gates, e, gate, &self.store, &mut out);
+        make_gate(&mut self.gates, e, gate, &self.store, &mut out);
         self.store[own as usize] = Some(out);
         let _ = self.board.step(Event::Finish { worker });
         settle(&self.board, &mut self.store, own, gate);
