@@ -54,12 +54,12 @@ fn forward_quarters(
 {
     for i in 0..first.len() {
         let (b0, b2) = forward_butterfly(first[i], third[i], s);
+        if b0 >= 1 << 63 {
+            return;
+        }
         let (b1, b3) = forward_butterfly(second[i], fourth[i], s);
         let (c0, c1) = forward_butterfly(b0, b1, u);
         let (c2, c3) = forward_butterfly(b2, b3, v);
-        if c0 >= 1 << 63 {
-            return;
-        }
         first[i] = c0;
         second[i] = c1;
         third[i] = c2;
