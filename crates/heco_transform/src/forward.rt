@@ -67,6 +67,34 @@ fn forward_quarters(
     }
 }
 
+/// The values of a polynomial of sixteen coefficients at the leaves under a node, in place.
+fn forward_sixteen(a: &mut [u64], node: usize, roots: &[Factor])
+    requires long { length a.old ≡ 16 }
+    requires node { 0 < node }
+    requires inside { 16 * node + 16 ≤ 2 * length roots.now }
+    requires tree { RootTree P roots.now }
+    requires below { EachIndex a.old (λ k. slice_index a.old k < 13 * P) }
+    ensures values { Values P 16 node roots.now (wholes a.old) a.new }
+    ensures below { EachIndex a.new (λ k. slice_index a.new k < 21 * P) }
+{
+    let (low, high) = a.split_at_mut(8);
+    let (first, second) = low.split_at_mut(4);
+    let (third, fourth) = high.split_at_mut(4);
+    forward_quarters(
+        first,
+        second,
+        third,
+        fourth,
+        roots[node],
+        roots[2 * node],
+        roots[2 * node + 1],
+    );
+    forward_four(first, 4 * node, roots);
+    forward_four(second, 4 * node + 1, roots);
+    forward_four(third, 4 * node + 2, roots);
+    forward_four(fourth, 4 * node + 3, roots);
+}
+
 /// The values of a polynomial at the leaves under a node, in place, two levels at once.
 fn forward_even(a: &mut [u64], depth: u32, node: usize, roots: &[Factor])
     requires depth { depth ≤ 10 }
@@ -84,6 +112,10 @@ fn forward_even(a: &mut [u64], depth: u32, node: usize, roots: &[Factor])
     }
     if depth == 2 {
         forward_four(a, node, roots);
+        return;
+    }
+    if depth == 4 {
+        forward_sixteen(a, node, roots);
         return;
     }
     let quarter = a.len() / 4;

@@ -20,6 +20,7 @@ pub fn forward_butterfly(x: u64, y: u64, s: Factor) -> (u64, u64)
 }
 
 /// The values of a polynomial of four coefficients at the leaves under a node, in place.
+#[inline(always)]
 pub fn forward_four(a: &mut [u64], node: usize, roots: &[Factor])
     requires long { length a.old ≡ 4 }
     requires node { 0 < node }
