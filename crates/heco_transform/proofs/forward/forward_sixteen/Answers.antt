@@ -1,6 +1,5 @@
-use Rattle.std.proofs.Common.{◌≡◌, ◌+◌, ◌-◌, ◌*◌, ◌^◌, ◌<◌, ◌≤◌, length, arith, sym, get_or, ◌++◌}
+use Rattle.std.proofs.Common.{◌≡◌, ◌+◌, ◌*◌, length, arith, sym, get_or, ◌++◌}
 use Rattle.std.proofs.lemmas.List.{get_or_read}
-use Rattle.heco_ring.specs.Ring.{wholes}
 use Rattle.heco_transform.specs.Modulus.{modulus}
 use Rattle.heco_transform.specs.Values.{quarters}
 use Rattle.heco_transform.proofs.Steps.{forward_two_steps}
