@@ -8,6 +8,7 @@ pub mod ImageLaws
 pub mod LimbLaws
 pub mod Parts
 pub mod Quarters
+pub mod QuartersBack
 pub mod Residues
 pub mod Roots
 pub mod Steps

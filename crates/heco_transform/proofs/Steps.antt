@@ -4,21 +4,21 @@ use lib.IntN.{ℤ, pos, negsuc, ◌+ℤ◌, ◌*ℤ◌, neg_ℤ}
 use lib.ListN.{length, get_or}
 use mathlib.Core.List.{List, ◌++◌}
 use mathlib.Core.Logic.{inl, inr}
-use mathlib.Core.Path.{◌≡◌, ap, subst}
+use mathlib.Core.Path.{◌≡◌, sym, ap, ◌∙◌, subst}
 use native.Mathlib.Nat.{one-le-pow, pow-suc}
 use native.Mathlib.Omega.{arith}
 use Rattle.std.proofs.Common.{length-append}
 use Rattle.std.proofs.lemmas.Bool.{cases_lt}
 use Rattle.std.proofs.lemmas.List.{get_or_append_left, get_or-append_right}
 use Rattle.heco_ring.proofs.Congruence.{same_refl}
-use Rattle.heco_ring.proofs.Integers.{lines, z_one_mul, monomials}
+use Rattle.heco_ring.proofs.Integers.{lines, z_one_mul, z_add_mul, monomials}
 use Rattle.heco_ring.proofs.Linear.{at-scale}
 use Rattle.heco_ring.proofs.Remainders.{cong_add, cong_mul, cong_refl, cong_neg, cong_trans, cong_sym}
 use Rattle.heco_ring.proofs.Wrapping.{at-wholes}
 use Rattle.heco_ring.specs.Remainders.{Cong, Same}
 use Rattle.heco_ring.specs.Ring.{at, wholes, scale, times}
-use Rattle.heco_transform.specs.Values.{power, value_at, node, RootTree, Values, fold, FoldedTwice}
-use Rattle.heco_transform.proofs.Folds.{at-fold, value_same, value_fold, value_times}
+use Rattle.heco_transform.specs.Values.{power, value_at, node, RootTree, Inverses, Values, fold, FoldedTwice, UnfoldsTwice}
+use Rattle.heco_transform.proofs.Folds.{at-fold, four_times, value_same, value_fold, value_times}
 use Rattle.heco_transform.proofs.Tree.{leaf_power, root_1, node_left, node_right}
 
 -- at a leaf under node c, the value of a is that of its fold by the root of c
@@ -136,6 +136,89 @@ inverse_step p h m s v a low high x y e i n l r cx cy = record {
             (subst (λ (j : ℕ). Cong p (v *ℤ (pos (get_or low (k - h) 0) +ℤ neg_ℤ (pos (get_or high (k - h) 0)))) ((pos h +ℤ pos h) *ℤ at a j)) w (difference_place p h (k - h) (pos h) s v a low high i l r lt))))
       ]);
 }
+
+-- ---- two levels up at once
+pub record FourValues (p d i : ℕ) (t : List ℕ) (a : List ℤ) (w x y z : List ℕ) : Type 0 where
+  pub first : Values p (2 ^ d) (4 * i) t (fold (2 ^ d) (node t (4 * i)) (fold (2 ^ d + 2 ^ d) (node t (2 * i)) a)) w
+  pub second : Values p (2 ^ d) (4 * i + 1) t (fold (2 ^ d) (node t (4 * i + 1)) (fold (2 ^ d + 2 ^ d) (node t (2 * i)) a)) x
+  pub third : Values p (2 ^ d) (4 * i + 2) t (fold (2 ^ d) (node t (4 * i + 2)) (fold (2 ^ d + 2 ^ d) (node t (2 * i + 1)) a)) y
+  pub fourth : Values p (2 ^ d) (4 * i + 3) t (fold (2 ^ d) (node t (4 * i + 3)) (fold (2 ^ d + 2 ^ d) (node t (2 * i + 1)) a)) z
+
+-- the values of a are the values of its folds, two levels at once
+pub folded_fours : (p d i : ℕ) (t : List ℕ) (a : List ℤ) (w x y z : List ℕ) → RootTree p t → 0 < i → 2 ^ d * (4 * i) + 4 * 2 ^ d ≤ 2 * length t → length w ≡ 2 ^ d → length x ≡ 2 ^ d → length y ≡ 2 ^ d →
+    Values p (2 ^ d + 2 ^ d + (2 ^ d + 2 ^ d)) i t a ((w ++ x) ++ (y ++ z)) → FourValues p d i t a w x y z
+folded_fours p d i t a w x y z r h b nw nx ny v =
+    let e : 2 ^ suc d ≡ 2 ^ d + 2 ^ d = omega (arith, pow-suc 2 d) in
+    let i0 : 2 * (2 * i) ≡ 4 * i = omega arith in
+    let i1 : 2 * (2 * i) + 1 ≡ 4 * i + 1 = omega arith in
+    let i2 : 2 * (2 * i + 1) ≡ 4 * i + 2 = omega arith in
+    let i3 : 2 * (2 * i + 1) + 1 ≡ 4 * i + 3 = omega arith in
+    let long : length (w ++ x) ≡ 2 ^ suc d = omega (arith, e, length-append w x) in
+    let inside : 2 ^ suc d * (2 * i) + 2 ^ suc d + 2 ^ suc d ≤ 2 * length t = rw e (omega arith) in
+    let v' : Values p (2 ^ suc d + 2 ^ suc d) i t a ((w ++ x) ++ (y ++ z)) = rw e v in
+    let low = rw e at (folded_left p (suc d) i t a (w ++ x) (y ++ z) r h inside long v') in
+    let high = rw e at (folded_right p (suc d) i t a (w ++ x) (y ++ z) r h inside long v') in
+    let f : List ℤ = fold (2 ^ d + 2 ^ d) (node t (2 * i)) a in
+    let g : List ℤ = fold (2 ^ d + 2 ^ d) (node t (2 * i + 1)) a in
+    record {
+      first = rw i0 at (folded_left p d (2 * i) t (fold (2 ^ d + 2 ^ d) (node t (2 * i)) a) w x r (omega arith) (omega arith) nw low);
+      second = rw i1 at (folded_right p d (2 * i) t (fold (2 ^ d + 2 ^ d) (node t (2 * i)) a) w x r (omega arith) (omega arith) nw low);
+      third = rw i2 at (folded_left p d (2 * i + 1) t (fold (2 ^ d + 2 ^ d) (node t (2 * i + 1)) a) y z r (omega arith) (omega arith) ny high);
+      fourth = rw i3 at (folded_right p d (2 * i + 1) t (fold (2 ^ d + 2 ^ d) (node t (2 * i + 1)) a) y z r (omega arith) (omega arith) ny high);
+    }
+
+-- a multiple of a polynomial that was folded twice is the folds of the multiple
+multiple_folded : (g a s b c r d : ℤ) → g *ℤ ((a +ℤ s *ℤ b) +ℤ r *ℤ (c +ℤ s *ℤ d)) ≡ (g *ℤ a +ℤ s *ℤ (g *ℤ b)) +ℤ r *ℤ (g *ℤ c +ℤ s *ℤ (g *ℤ d))
+multiple_folded g a s b c r d = simp monomials
+
+folds_scaled : (p h : ℕ) (g s r : ℤ) (a : List ℤ) (v : List ℕ) → Same p h (wholes v) (scale h g (fold h r (fold (h + h) s a))) → Same p h (wholes v) (fold h r (fold (h + h) s (scale (h + h + (h + h)) g a)))
+folds_scaled p h g s r a v f = record {
+  each = λ k l.
+      let l0 : k < h + h = omega arith in
+      let l1 : h + k < h + h = omega arith in
+      let b0 : k < h + h + (h + h) = omega arith in
+      let b1 : h + k < h + h + (h + h) = omega arith in
+      let b2 : h + h + k < h + h + (h + h) = omega arith in
+      let b3 : h + h + (h + k) < h + h + (h + h) = omega arith in
+      let q : Cong p (at (wholes v) k) (g *ℤ ((at a k +ℤ s *ℤ at a (h + h + k)) +ℤ r *ℤ (at a (h + k) +ℤ s *ℤ at a (h + h + (h + k))))) =
+      rw (at-scale h g (fold h r (fold (h + h) s a)) k l, at-fold h r (fold (h + h) s a) k l, at-fold (h + h) s a k l0, at-fold (h + h) s a (h + k) l1) at (f.each k l) in
+      rw (at-fold h r (fold (h + h) s (scale (h + h + (h + h)) g a)) k l, at-fold (h + h) s (scale (h + h + (h + h)) g a) k l0, at-fold (h + h) s (scale (h + h + (h + h)) g a) (h + k) l1)
+      (rw (at-scale (h + h + (h + h)) g a k b0, at-scale (h + h + (h + h)) g a (h + k) b1, at-scale (h + h + (h + h)) g a (h + h + k) b2, at-scale (h + h + (h + h)) g a (h + h + (h + k)) b3)
+      (rw (← (multiple_folded g (at a k) s (at a (h + h + k)) (at a (h + k)) r (at a (h + h + (h + k))))) q));
+}
+
+four_times_as : (p h : ℕ) (a b : List ℤ) → Same p (h + h + (h + h)) b (scale (h + h + (h + h)) (pos 4) (scale (h + h + (h + h)) (pos h) a)) → Same p (h + h + (h + h)) b (scale (h + h + (h + h)) (pos (h + h + (h + h))) a)
+four_times_as p h a b f = record {
+  each = λ k l. rw (at-scale (h + h + (h + h)) (pos (h + h + (h + h))) a k l, ← (many h (at a k)))
+      (rw (at-scale (h + h + (h + h)) (pos 4) (scale (h + h + (h + h)) (pos h) a) k l, at-scale (h + h + (h + h)) (pos h) a k l) at (f.each k l));
+}
+  where
+    many : (h : ℕ) (x : ℤ) → pos 4 *ℤ (pos h *ℤ x) ≡ pos (h + h + (h + h)) *ℤ x
+    many h x = sym (z_add_mul (pos h +ℤ pos h) (pos h +ℤ pos h) x ∙ rw (z_add_mul (pos h) (pos h) x) (four_times (pos h *ℤ x)))
+
+pub inverse_two_steps : (p d i s u v : ℕ) (t inverses : List ℕ) (a b : List ℤ) (w x y z : List ℕ) → Inverses p t inverses → 2 * i + 1 < length t → get_or inverses i 0 ≡ s → get_or inverses (2 * i) 0 ≡ u → get_or inverses (2 * i + 1) 0 ≡ v →
+    Same p (2 ^ d) (wholes w) (scale (2 ^ d) (pos (2 ^ d)) (fold (2 ^ d) (node t (4 * i)) (fold (2 ^ d + 2 ^ d) (node t (2 * i)) a))) →
+    Same p (2 ^ d) (wholes x) (scale (2 ^ d) (pos (2 ^ d)) (fold (2 ^ d) (node t (4 * i + 1)) (fold (2 ^ d + 2 ^ d) (node t (2 * i)) a))) →
+    Same p (2 ^ d) (wholes y) (scale (2 ^ d) (pos (2 ^ d)) (fold (2 ^ d) (node t (4 * i + 2)) (fold (2 ^ d + 2 ^ d) (node t (2 * i + 1)) a))) →
+    Same p (2 ^ d) (wholes z) (scale (2 ^ d) (pos (2 ^ d)) (fold (2 ^ d) (node t (4 * i + 3)) (fold (2 ^ d + 2 ^ d) (node t (2 * i + 1)) a))) →
+    UnfoldsTwice p (2 ^ d) s u v w x y z b → Same p (2 ^ d + 2 ^ d + (2 ^ d + 2 ^ d)) b (scale (2 ^ d + 2 ^ d + (2 ^ d + 2 ^ d)) (pos (2 ^ d + 2 ^ d + (2 ^ d + 2 ^ d))) a)
+inverse_two_steps p d i s u v t inverses a b w x y z inv inside es eu ev fw fx fy fz n =
+    let i0 : 2 * (2 * i) ≡ 4 * i = omega arith in
+    let i1 : 2 * (2 * i) + 1 ≡ 4 * i + 1 = omega arith in
+    let i2 : 2 * (2 * i + 1) ≡ 4 * i + 2 = omega arith in
+    let i3 : 2 * (2 * i + 1) + 1 ≡ 4 * i + 3 = omega arith in
+    let n0 : node t (4 * i) ≡ pos (get_or t (2 * i) 0) = rw i0 at (node_left t (2 * i)) in
+    let n1 : node t (4 * i + 1) ≡ neg_ℤ (pos (get_or t (2 * i) 0)) = rw i1 at (node_right t (2 * i)) in
+    let n2 : node t (4 * i + 2) ≡ pos (get_or t (2 * i + 1) 0) = rw i2 at (node_left t (2 * i + 1)) in
+    let n3 : node t (4 * i + 3) ≡ neg_ℤ (pos (get_or t (2 * i + 1) 0)) = rw i3 at (node_right t (2 * i + 1)) in
+    four_times_as p (2 ^ d) a b (n.four_times (scale (2 ^ d + 2 ^ d + (2 ^ d + 2 ^ d)) (pos (2 ^ d)) a) (get_or t i 0) (get_or t (2 * i) 0) (get_or t (2 * i + 1) 0)
+    (rw es at (inv.each i (omega arith))) (rw eu at (inv.each (2 * i) (omega arith))) (rw ev at (inv.each (2 * i + 1) inside))
+    (record {
+      first = folds_scaled p (2 ^ d) (pos (2 ^ d)) (pos (get_or t i 0)) (pos (get_or t (2 * i) 0)) a w (rw (n0, node_left t i) at fw);
+      second = folds_scaled p (2 ^ d) (pos (2 ^ d)) (pos (get_or t i 0)) (neg_ℤ (pos (get_or t (2 * i) 0))) a x (rw (n1, node_left t i) at fx);
+      third = folds_scaled p (2 ^ d) (pos (2 ^ d)) (neg_ℤ (pos (get_or t i 0))) (pos (get_or t (2 * i + 1) 0)) a y (rw (n2, node_right t i) at fy);
+      fourth = folds_scaled p (2 ^ d) (pos (2 ^ d)) (neg_ℤ (pos (get_or t i 0))) (neg_ℤ (pos (get_or t (2 * i + 1) 0))) a z (rw (n3, node_right t i) at fz);
+    }))
 
 -- ---- the values of a product are the products of the values
 pub product_value : (p d k : ℕ) (t : List ℕ) (a b : List ℤ) (v w : List ℕ) → RootTree p t → length t ≡ 2 ^ d → Values p (2 ^ d) 1 t a v → Values p (2 ^ d) 1 t b w → k < 2 ^ d →

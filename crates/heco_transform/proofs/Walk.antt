@@ -44,6 +44,9 @@ children_inside d i n h b = inner (2 ^ d) (2 ^ (d - 1)) (halves d h) b
 pub fours : (d : ℕ) → 2 ≤ d → 2 ^ d ≡ 2 ^ (d - 2) + 2 ^ (d - 2) + (2 ^ (d - 2) + 2 ^ (d - 2))
 fours d h = let e : d ≡ suc (suc (d - 2)) = omega arith in ap (λ (x : ℕ). 2 ^ x) e ∙ omega (arith, pow-suc 2 (suc (d - 2)), pow-suc 2 (d - 2))
 
+pub twos : (d : ℕ) → 2 ≤ d → 2 ^ (d - 1) ≡ 2 ^ (d - 2) + 2 ^ (d - 2)
+twos d h = let e : d - 1 ≡ suc (d - 2) = omega arith in ap (λ (x : ℕ). 2 ^ x) e ∙ omega (arith, pow-suc 2 (d - 2))
+
 pub nodes_inside : (d i n : ℕ) → 2 ≤ d → 2 ^ d * i + 2 ^ d ≤ 2 * n → 2 * i + 2 ≤ n
 nodes_inside d i n h b = inner (2 ^ d) (2 ^ (d - 2)) (fours d h) (power_positive (d - 2)) b
   where

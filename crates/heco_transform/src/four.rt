@@ -41,7 +41,7 @@ pub fn forward_four(a: &mut [u64], node: usize, roots: &[Factor])
 }
 
 /// x + y and s (x - y). The bound is a multiple of P above both.
-fn inverse_butterfly(x: u64, y: u64, s: Factor, bound: u64) -> (u64, u64)
+pub fn inverse_butterfly(x: u64, y: u64, s: Factor, bound: u64) -> (u64, u64)
     requires multiple { bound % P ≡ 0 }
     requires small { bound ≤ 2 ^ 63 }
     requires x { x < bound }
@@ -55,6 +55,7 @@ fn inverse_butterfly(x: u64, y: u64, s: Factor, bound: u64) -> (u64, u64)
 }
 
 /// Four times the polynomial whose values at the leaves under a node are given, in place.
+#[inline(always)]
 pub fn inverse_four(a: &mut [u64], node: usize, inverses: &[Factor])
     requires long { length a.old ≡ 4 }
     requires node { 0 < node }
