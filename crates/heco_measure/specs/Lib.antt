@@ -1,0 +1,4 @@
+pub mod Plaintexts
+pub mod Stores
+pub mod Measuring
+pub mod Lines
