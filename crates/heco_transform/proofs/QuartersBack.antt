@@ -1,10 +1,10 @@
 -- A loop that takes two levels back at once: four quarters of a list that was folded twice, place by place, in their places.
-use Prim.Native.Nat.{ℕ, ◌+◌, ◌-◌, ◌*◌, ◌%◌, ◌<◌, ◌≤◌}
+use Prim.Native.Nat.{ℕ, ◌+◌, ◌-◌, ◌*◌, ◌<◌}
 use lib.IntN.{ℤ, pos, ◌+ℤ◌, ◌*ℤ◌, neg_ℤ}
 use lib.ListN.{length, get_or, set}
 use mathlib.Core.List.{List, ◌++◌}
 use mathlib.Core.Logic.{inl, inr}
-use mathlib.Core.Path.{◌≡◌, refl, subst}
+use mathlib.Core.Path.{◌≡◌, subst}
 use native.Mathlib.Omega.{arith}
 use Rattle.std.proofs.lemmas.Bool.{cases_lt}
 use Rattle.heco_ring.proofs.Integers.{lines, monomials, z_one_mul}
@@ -14,7 +14,7 @@ use Rattle.heco_ring.proofs.Wrapping.{at-wholes}
 use Rattle.heco_ring.specs.Remainders.{Cong, Same}
 use Rattle.heco_ring.specs.Ring.{at, wholes, scale}
 use Rattle.heco_transform.specs.Modulus.{modulus}
-use Rattle.heco_transform.specs.Values.{fold, quarters, FoldedTwice, UnfoldsTwice}
+use Rattle.heco_transform.specs.Values.{fold, quarters, all_four, FoldedTwice, UnfoldsTwice}
 use Rattle.heco_transform.proofs.Folds.{at-fold, four_times}
 use Rattle.heco_transform.proofs.Quarters.{Quarter, quarter_none, quarter_more, at_first, at_second, at_third, at_fourth}
 
@@ -73,27 +73,27 @@ third_of s a b c d k = pos s *ℤ (sum_of (get_or a k 0) (get_or b k 0) +ℤ neg
 abbrev pub fourth_of : (s u v : ℕ) (a b c d : List ℕ) → ℕ → ℤ
 fourth_of s u v a b c d k = pos s *ℤ (difference_of u (get_or a k 0) (get_or b k 0) +ℤ neg_ℤ (difference_of v (get_or c k 0) (get_or d k 0)))
 
-pub record Back (h i s u v m : ℕ) (a b c d w x y z : List ℕ) : Type 0 where
-  pub first : Quarter h i (first_of a b c d) (λ k. 4 * m) a w
-  pub second : Quarter h i (second_of u v a b c d) (λ k. 4 * m) b x
-  pub third : Quarter h i (third_of s a b c d) (λ k. 4 * m) c y
-  pub fourth : Quarter h i (fourth_of s u v a b c d) (λ k. 4 * m) d z
+pub record Back (h i s u v : ℕ) (a b c d w x y z : List ℕ) : Type 0 where
+  pub first : Quarter h i (first_of a b c d) (λ k. all_four a b c d k + 1) a w
+  pub second : Quarter h i (second_of u v a b c d) (λ k. 4 * modulus) b x
+  pub third : Quarter h i (third_of s a b c d) (λ k. 4 * modulus) c y
+  pub fourth : Quarter h i (fourth_of s u v a b c d) (λ k. 4 * modulus) d z
 
-pub back_none : (h s u v m : ℕ) (a b c d : List ℕ) → Back h 0 s u v m a b c d a b c d
-back_none h s u v m a b c d = record {
-  first = quarter_none h (first_of a b c d) (λ k. 4 * m) a;
-  second = quarter_none h (second_of u v a b c d) (λ k. 4 * m) b;
-  third = quarter_none h (third_of s a b c d) (λ k. 4 * m) c;
-  fourth = quarter_none h (fourth_of s u v a b c d) (λ k. 4 * m) d;
+pub back_none : (h s u v : ℕ) (a b c d : List ℕ) → Back h 0 s u v a b c d a b c d
+back_none h s u v a b c d = record {
+  first = quarter_none h (first_of a b c d) (λ k. all_four a b c d k + 1) a;
+  second = quarter_none h (second_of u v a b c d) (λ k. 4 * modulus) b;
+  third = quarter_none h (third_of s a b c d) (λ k. 4 * modulus) c;
+  fourth = quarter_none h (fourth_of s u v a b c d) (λ k. 4 * modulus) d;
 }
 
-pub back_more : (h i s u v m c0 c1 c2 c3 b0 b1 b2 b3 : ℕ) (a b c d w x y z : List ℕ) → i < h → length w ≡ h → length x ≡ h → length y ≡ h → length z ≡ h → Back h i s u v m a b c d w x y z →
+pub back_more : (h i s u v c0 c1 c2 c3 b0 b1 b2 b3 : ℕ) (a b c d w x y z : List ℕ) → i < h → length w ≡ h → length x ≡ h → length y ≡ h → length z ≡ h → Back h i s u v a b c d w x y z →
     c0 ≡ get_or w i 0 + get_or x i 0 → Cong modulus (pos c1) (difference_of u (get_or w i 0) (get_or x i 0)) →
     c2 ≡ get_or y i 0 + get_or z i 0 → Cong modulus (pos c3) (difference_of v (get_or y i 0) (get_or z i 0)) →
     b0 ≡ c0 + c2 → Cong modulus (pos b2) (difference_of s c0 c2) → b1 ≡ c1 + c3 → Cong modulus (pos b3) (difference_of s c1 c3) →
-    b0 < 4 * m → b1 < 4 * m → b2 < 4 * m → b3 < 4 * m →
-    Back h (i + 1) s u v m a b c d (set w i b0) (set x i b1) (set y i b2) (set z i b3)
-back_more h i s u v m c0 c1 c2 c3 b0 b1 b2 b3 a b c d w x y z l nw nx ny nz q e0 e1 e2 e3 f0 f2 f1 f3 r0 r1 r2 r3 =
+    b1 < 4 * modulus → b2 < 4 * modulus → b3 < 4 * modulus →
+    Back h (i + 1) s u v a b c d (set w i b0) (set x i b1) (set y i b2) (set z i b3)
+back_more h i s u v c0 c1 c2 c3 b0 b1 b2 b3 a b c d w x y z l nw nx ny nz q e0 e1 e2 e3 f0 f2 f1 f3 r1 r2 r3 =
     let ew : get_or w i 0 ≡ get_or a i 0 = q.first.rest i (omega arith) l in
     let ex : get_or x i 0 ≡ get_or b i 0 = q.second.rest i (omega arith) l in
     let ey : get_or y i 0 ≡ get_or c i 0 = q.third.rest i (omega arith) l in
@@ -103,10 +103,10 @@ back_more h i s u v m c0 c1 c2 c3 b0 b1 b2 b3 a b c d w x y z l nw nx ny nz q e0
     let g1 : Cong modulus (pos c1) (difference_of u (get_or a i 0) (get_or b i 0)) = rw (ew, ex) at e1 in
     let g3 : Cong modulus (pos c3) (difference_of v (get_or c i 0) (get_or d i 0)) = rw (ey, ez) at e3 in
     record {
-      first = quarter_more h i b0 (first_of a b c d) (λ k. 4 * m) a w l nw q.first (rw f0 (cong_add modulus (pos c0) (sum_of (get_or a i 0) (get_or b i 0)) (pos c2) (sum_of (get_or c i 0) (get_or d i 0)) g0 g2)) r0;
-      second = quarter_more h i b1 (second_of u v a b c d) (λ k. 4 * m) b x l nx q.second (rw f1 (cong_add modulus (pos c1) (difference_of u (get_or a i 0) (get_or b i 0)) (pos c3) (difference_of v (get_or c i 0) (get_or d i 0)) g1 g3)) r1;
-      third = quarter_more h i b2 (third_of s a b c d) (λ k. 4 * m) c y l ny q.third (differs b2 s c0 c2 (sum_of (get_or a i 0) (get_or b i 0)) (sum_of (get_or c i 0) (get_or d i 0)) f2 g0 g2) r2;
-      fourth = quarter_more h i b3 (fourth_of s u v a b c d) (λ k. 4 * m) d z l nz q.fourth (differs b3 s c1 c3 (difference_of u (get_or a i 0) (get_or b i 0)) (difference_of v (get_or c i 0) (get_or d i 0)) f3 g1 g3) r3;
+      first = quarter_more h i b0 (first_of a b c d) (λ k. all_four a b c d k + 1) a w l nw q.first (rw f0 (cong_add modulus (pos c0) (sum_of (get_or a i 0) (get_or b i 0)) (pos c2) (sum_of (get_or c i 0) (get_or d i 0)) g0 g2)) (omega arith);
+      second = quarter_more h i b1 (second_of u v a b c d) (λ k. 4 * modulus) b x l nx q.second (rw f1 (cong_add modulus (pos c1) (difference_of u (get_or a i 0) (get_or b i 0)) (pos c3) (difference_of v (get_or c i 0) (get_or d i 0)) g1 g3)) r1;
+      third = quarter_more h i b2 (third_of s a b c d) (λ k. 4 * modulus) c y l ny q.third (differs b2 s c0 c2 (sum_of (get_or a i 0) (get_or b i 0)) (sum_of (get_or c i 0) (get_or d i 0)) f2 g0 g2) r2;
+      fourth = quarter_more h i b3 (fourth_of s u v a b c d) (λ k. 4 * modulus) d z l nz q.fourth (differs b3 s c1 c3 (difference_of u (get_or a i 0) (get_or b i 0)) (difference_of v (get_or c i 0) (get_or d i 0)) f3 g1 g3) r3;
     }
   where
     differs : (r s c e : ℕ) (y z : ℤ) → Cong modulus (pos r) (difference_of s c e) → Cong modulus (pos c) y → Cong modulus (pos e) z → Cong modulus (pos r) (pos s *ℤ (y +ℤ neg_ℤ z))
@@ -160,8 +160,8 @@ place_back h k s u v s' u' v' a w x y z i f l =
 at_back : (h j : ℕ) (a : List ℤ) (l : List ℕ) (r : ℕ) (z : ℤ) → j < h + h + (h + h) → get_or l j 0 ≡ r → Cong modulus (pos r) z → Cong modulus z (pos 4 *ℤ at a j) → Cong modulus (at (wholes l) j) (at (scale (h + h + (h + h)) (pos 4) a) j)
 at_back h j a l r z b e c d = rw (at-wholes l j, e, at-scale (h + h + (h + h)) (pos 4) a j b) (cong_trans modulus (pos r) z (pos 4 *ℤ at a j) c d)
 
-pub unfolds_twice : (h s u v m : ℕ) (a b c d w x y z : List ℕ) → length w ≡ h → length x ≡ h → length y ≡ h → Back h h s u v m a b c d w x y z → UnfoldsTwice modulus h s u v a b c d (quarters w x y z)
-unfolds_twice h s u v m a b c d w x y z nw nx ny q = record {
+pub unfolds_twice : (h s u v : ℕ) (a b c d w x y z : List ℕ) → length w ≡ h → length x ≡ h → length y ≡ h → Back h h s u v a b c d w x y z → UnfoldsTwice modulus h s u v a b c d (quarters w x y z)
+unfolds_twice h s u v a b c d w x y z nw nx ny q = record {
   four_times = λ f s' u' v' is iu iv g. record {
     each = let i : Backs modulus s u v s' u' v' = record { of_s = is; of_u = iu; of_v = iv } in
         four_parts (λ j. Cong modulus (at (wholes ((w ++ x) ++ (y ++ z))) j) (at (scale (h + h + (h + h)) (pos 4) f) j)) h

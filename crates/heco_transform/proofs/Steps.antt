@@ -158,8 +158,6 @@ folded_fours p d i t a w x y z r h b nw nx ny v =
     let v' : Values p (2 ^ suc d + 2 ^ suc d) i t a ((w ++ x) ++ (y ++ z)) = rw e v in
     let low = rw e at (folded_left p (suc d) i t a (w ++ x) (y ++ z) r h inside long v') in
     let high = rw e at (folded_right p (suc d) i t a (w ++ x) (y ++ z) r h inside long v') in
-    let f : List ℤ = fold (2 ^ d + 2 ^ d) (node t (2 * i)) a in
-    let g : List ℤ = fold (2 ^ d + 2 ^ d) (node t (2 * i + 1)) a in
     record {
       first = rw i0 at (folded_left p d (2 * i) t (fold (2 ^ d + 2 ^ d) (node t (2 * i)) a) w x r (omega arith) (omega arith) nw low);
       second = rw i1 at (folded_right p d (2 * i) t (fold (2 ^ d + 2 ^ d) (node t (2 * i)) a) w x r (omega arith) (omega arith) nw low);

@@ -44,9 +44,6 @@ children_inside d i n h b = inner (2 ^ d) (2 ^ (d - 1)) (halves d h) b
 pub fours : (d : ℕ) → 2 ≤ d → 2 ^ d ≡ 2 ^ (d - 2) + 2 ^ (d - 2) + (2 ^ (d - 2) + 2 ^ (d - 2))
 fours d h = let e : d ≡ suc (suc (d - 2)) = omega arith in ap (λ (x : ℕ). 2 ^ x) e ∙ omega (arith, pow-suc 2 (suc (d - 2)), pow-suc 2 (d - 2))
 
-pub twos : (d : ℕ) → 2 ≤ d → 2 ^ (d - 1) ≡ 2 ^ (d - 2) + 2 ^ (d - 2)
-twos d h = let e : d - 1 ≡ suc (d - 2) = omega arith in ap (λ (x : ℕ). 2 ^ x) e ∙ omega (arith, pow-suc 2 (d - 2))
-
 pub nodes_inside : (d i n : ℕ) → 2 ≤ d → 2 ^ d * i + 2 ^ d ≤ 2 * n → 2 * i + 2 ≤ n
 nodes_inside d i n h b = inner (2 ^ d) (2 ^ (d - 2)) (fours d h) (power_positive (d - 2)) b
   where
@@ -99,7 +96,7 @@ both_below b low high f g k l = elim (cases_lt k (length low)) [
 ]
 
 -- the bound of the way back is a word
-power_small : (d : ℕ) → d ≤ 10 → 2 ^ d ≤ 1024
+pub power_small : (d : ℕ) → d ≤ 10 → 2 ^ d ≤ 1024
 power_small d h = let two : 0 < 2 = omega arith in pow-le-pow_right two h
 
 pub bound_is : (d : ℕ) → d ≤ 10 → modulus * 2 ^ d % 2 ^ 64 ≡ modulus * 2 ^ d

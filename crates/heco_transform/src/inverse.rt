@@ -2,7 +2,7 @@ ghost use Rattle.std.specs.Prelude.{◌≡◌, ◌<◌, ◌≤◌, ◌+◌, ◌*
 ghost use lib.IntN.{ℤ, pos, ◌+ℤ◌, ◌*ℤ◌, neg_ℤ};
 ghost use Rattle.heco_ring.specs.Remainders.{Cong, Same};
 ghost use Rattle.heco_ring.specs.Ring.{wholes, scale};
-ghost use Rattle.heco_transform.specs.Values.{RootTree, Inverses, Values, quarters, UnfoldsTwice};
+ghost use Rattle.heco_transform.specs.Values.{RootTree, Inverses, Values, quarters, all_four, UnfoldsTwice};
 
 use crate::four::{inverse_butterfly, inverse_four};
 use crate::residue::times;
@@ -33,9 +33,12 @@ fn inverse_butterflies(low: &mut [u64], high: &mut [u64], s: Factor, bound: u64)
     }
 }
 
+/// A multiple of P above all values of the way back but the last.
+const ABOVE: u64 = 1024 * P;
+
 /// Two levels back at once: four times a polynomial by its quarters of h coefficients, in their places, from what it is modulo
-/// x^h - r, x^h + r, x^h - t and x^h + t. The factors are the inverses of r^2, r and t, and the bound is a multiple of P above
-/// all places. No value has its top bit set: the test keeps the compiler from two lanes, which are slower here.
+/// x^h - r, x^h + r, x^h - t and x^h + t. The factors are the inverses of r^2, r and t. No product has its top bit set: the
+/// test keeps the compiler from two lanes, which are slower here.
 fn inverse_quarters(
     first: &mut [u64],
     second: &mut [u64],
@@ -44,32 +47,28 @@ fn inverse_quarters(
     s: Factor,
     u: Factor,
     v: Factor,
-    bound: u64,
 )
     requires second_long { length second.old ≡ length first.old }
     requires third_long { length third.old ≡ length first.old }
     requires fourth_long { length fourth.old ≡ length first.old }
-    requires multiple { bound % P ≡ 0 }
-    requires small { 2 * bound ≤ 2 ^ 63 }
-    requires above { P ≤ bound }
-    requires first_below { EachIndex first.old (λ k. slice_index first.old k < bound) }
-    requires second_below { EachIndex second.old (λ k. slice_index second.old k < bound) }
-    requires third_below { EachIndex third.old (λ k. slice_index third.old k < bound) }
-    requires fourth_below { EachIndex fourth.old (λ k. slice_index fourth.old k < bound) }
+    requires first_below { EachIndex first.old (λ k. slice_index first.old k < 512 * P) }
+    requires second_below { EachIndex second.old (λ k. slice_index second.old k < 512 * P) }
+    requires third_below { EachIndex third.old (λ k. slice_index third.old k < 512 * P) }
+    requires fourth_below { EachIndex fourth.old (λ k. slice_index fourth.old k < 512 * P) }
     ensures value { UnfoldsTwice P (length first.old) s u v first.old second.old third.old fourth.old (quarters first.new second.new third.new fourth.new) }
-    ensures first_room { EachIndex first.new (λ k. slice_index first.new k < 4 * bound) }
-    ensures second_room { EachIndex second.new (λ k. slice_index second.new k < 4 * bound) }
-    ensures third_room { EachIndex third.new (λ k. slice_index third.new k < 4 * bound) }
-    ensures fourth_room { EachIndex fourth.new (λ k. slice_index fourth.new k < 4 * bound) }
+    ensures first_room { EachIndex first.new (λ k. slice_index first.new k ≤ all_four first.old second.old third.old fourth.old k) }
+    ensures second_room { EachIndex second.new (λ k. slice_index second.new k < 4 * P) }
+    ensures third_room { EachIndex third.new (λ k. slice_index third.new k < 4 * P) }
+    ensures fourth_room { EachIndex fourth.new (λ k. slice_index fourth.new k < 4 * P) }
 {
     for i in 0..first.len() {
-        let (c0, c1) = inverse_butterfly(first[i], second[i], u, bound);
-        let (c2, c3) = inverse_butterfly(third[i], fourth[i], v, bound);
+        let (c0, c1) = inverse_butterfly(first[i], second[i], u, ABOVE);
+        let (c2, c3) = inverse_butterfly(third[i], fourth[i], v, ABOVE);
         if c3 >= 1 << 63 {
             return;
         }
-        let (b0, b2) = inverse_butterfly(c0, c2, s, 2 * bound);
-        let (b1, b3) = inverse_butterfly(c1, c3, s, 2 * P);
+        let (b0, b2) = inverse_butterfly(c0, c2, s, ABOVE);
+        let (b1, b3) = inverse_butterfly(c1, c3, s, ABOVE);
         first[i] = b0;
         second[i] = b1;
         third[i] = b2;
@@ -101,7 +100,6 @@ fn inverse_sixteen(a: &mut [u64], node: usize, inverses: &[Factor])
         inverses[node],
         inverses[2 * node],
         inverses[2 * node + 1],
-        8 * P,
     );
 }
 
@@ -143,7 +141,6 @@ fn inverse_even(a: &mut [u64], depth: u32, node: usize, inverses: &[Factor])
         inverses[node],
         inverses[2 * node],
         inverses[2 * node + 1],
-        P << (depth - 1),
     );
 }
 

@@ -1,10 +1,9 @@
-use Rattle.std.proofs.Common.{◌≡◌, ◌+◌, ◌-◌, ◌*◌, ◌^◌, ◌<◌, ◌≤◌, length, arith, sym, get_or, ◌++◌}
+use Rattle.std.proofs.Common.{◌≡◌, ◌+◌, ◌-◌, ◌*◌, ◌^◌, ◌≤◌, length, arith, sym, get_or, ◌++◌}
 use Rattle.std.proofs.lemmas.List.{get_or_read}
-use Rattle.heco_ring.specs.Ring.{wholes}
 use Rattle.heco_transform.specs.Modulus.{modulus}
-use Rattle.heco_transform.specs.Values.{node, fold, quarters, Values}
+use Rattle.heco_transform.specs.Values.{node, fold, quarters}
 use Rattle.heco_transform.proofs.Steps.{folded_fours, inverse_two_steps}
-use Rattle.heco_transform.proofs.Walk.{fours, twos, halves, nodes_inside, grandchildren_inside, same_leaf, front_below, back_below, both_below, bound_is}
+use Rattle.heco_transform.proofs.Walk.{fours, power_positive, power_small, nodes_inside, grandchildren_inside, same_leaf, front_below, back_below, both_below}
 use Rattle.heco_transform.proofs.inverse.+inverse_even.Goals as goal
 
 pub returns-then-depth-eq0-clause-value : goal.returns-then-depth-eq0-clause-value
@@ -137,22 +136,22 @@ inverse_quarters-requires-clause-fourth_long t c =
 pub inverse_quarters-requires-clause-first_below : goal.inverse_quarters-requires-clause-first_below
 inverse_quarters-requires-clause-first_below t c =
     let d : 2 ≤ c.args.depth = omega arith in
-    λ i l. omega (arith, twos c.args.depth d, bound_is (c.args.depth - 1) (omega arith), c.inverse_even.ensures.below i l)
+    λ i l. omega (arith, fours c.args.depth d, power_small c.args.depth c.requires.depth, c.inverse_even.ensures.below i l)
 
 pub inverse_quarters-requires-clause-second_below : goal.inverse_quarters-requires-clause-second_below
 inverse_quarters-requires-clause-second_below t c =
     let d : 2 ≤ c.args.depth = omega arith in
-    λ i l. omega (arith, twos c.args.depth d, bound_is (c.args.depth - 1) (omega arith), c.inverse_even-2.ensures.below i l)
+    λ i l. omega (arith, fours c.args.depth d, power_small c.args.depth c.requires.depth, c.inverse_even-2.ensures.below i l)
 
 pub inverse_quarters-requires-clause-third_below : goal.inverse_quarters-requires-clause-third_below
 inverse_quarters-requires-clause-third_below t c =
     let d : 2 ≤ c.args.depth = omega arith in
-    λ i l. omega (arith, twos c.args.depth d, bound_is (c.args.depth - 1) (omega arith), c.inverse_even-3.ensures.below i l)
+    λ i l. omega (arith, fours c.args.depth d, power_small c.args.depth c.requires.depth, c.inverse_even-3.ensures.below i l)
 
 pub inverse_quarters-requires-clause-fourth_below : goal.inverse_quarters-requires-clause-fourth_below
 inverse_quarters-requires-clause-fourth_below t c =
     let d : 2 ≤ c.args.depth = omega arith in
-    λ i l. omega (arith, twos c.args.depth d, bound_is (c.args.depth - 1) (omega arith), c.inverse_even-4.ensures.below i l)
+    λ i l. omega (arith, fours c.args.depth d, power_small c.args.depth c.requires.depth, c.inverse_even-4.ensures.below i l)
 
 pub returns-clause-value : goal.returns-clause-value
 returns-clause-value t c = λ r b tree inv v.
@@ -182,8 +181,18 @@ returns-clause-value t c = λ r b tree inv v.
 pub returns-clause-below : goal.returns-clause-below
 returns-clause-below t c =
     let d : 2 ≤ c.args.depth = omega arith in
-    let b = bound_is (c.args.depth - 1) (omega arith) in
-    let h = halves c.args.depth (omega arith) in
+    let h = fours c.args.depth d in
+    let p = power_positive (c.args.depth - 2) in
     both_below (2 ^ c.args.depth * (2 * modulus)) (c.inverse_quarters.new.first ++ c.inverse_quarters.new.second) (c.inverse_quarters.new.third ++ c.inverse_quarters.new.fourth)
-    (both_below (2 ^ c.args.depth * (2 * modulus)) c.inverse_quarters.new.first c.inverse_quarters.new.second (λ k l. omega (arith, b, h, c.inverse_quarters.ensures.first_room k l)) (λ k l. omega (arith, b, h, c.inverse_quarters.ensures.second_room k l)))
-    (both_below (2 ^ c.args.depth * (2 * modulus)) c.inverse_quarters.new.third c.inverse_quarters.new.fourth (λ k l. omega (arith, b, h, c.inverse_quarters.ensures.third_room k l)) (λ k l. omega (arith, b, h, c.inverse_quarters.ensures.fourth_room k l)))
+    (both_below (2 ^ c.args.depth * (2 * modulus)) c.inverse_quarters.new.first c.inverse_quarters.new.second
+    (λ k l. omega (
+      arith,
+      h,
+      c.inverse_quarters.ensures.first_room k l,
+      c.inverse_even.ensures.below k (omega (arith, h, c.requires.long, c.split_at_mut-low.ensures.front_len, c.split_at_mut-first.ensures.front_len, c.inverse_even.auto.a, c.inverse_quarters.auto.first)),
+      c.inverse_even-2.ensures.below k (omega (arith, h, c.requires.long, c.split_at_mut-low.ensures.front_len, c.split_at_mut-first.ensures.front_len, c.inverse_even.auto.a, c.inverse_quarters.auto.first, c.split_at_mut-first.ensures.back_len, c.inverse_even-2.auto.a)),
+      c.inverse_even-3.ensures.below k (omega (arith, h, c.requires.long, c.split_at_mut-low.ensures.front_len, c.split_at_mut-first.ensures.front_len, c.inverse_even.auto.a, c.inverse_quarters.auto.first, c.split_at_mut-low.ensures.back_len, c.split_at_mut-third.ensures.front_len, c.inverse_even-3.auto.a)),
+      c.inverse_even-4.ensures.below k (omega (arith, h, c.requires.long, c.split_at_mut-low.ensures.front_len, c.split_at_mut-first.ensures.front_len, c.inverse_even.auto.a, c.inverse_quarters.auto.first, c.split_at_mut-low.ensures.back_len, c.split_at_mut-third.ensures.back_len, c.inverse_even-4.auto.a)),
+    ))
+    (λ k l. omega (arith, h, p, c.inverse_quarters.ensures.second_room k l)))
+    (both_below (2 ^ c.args.depth * (2 * modulus)) c.inverse_quarters.new.third c.inverse_quarters.new.fourth (λ k l. omega (arith, h, p, c.inverse_quarters.ensures.third_room k l)) (λ k l. omega (arith, h, p, c.inverse_quarters.ensures.fourth_room k l)))

@@ -29,5 +29,14 @@ returns-clause-value c = λ r b tree inv v.
 
 pub returns-clause-below : goal.returns-clause-below
 returns-clause-below c = both_below (32 * modulus) (c.inverse_quarters.new.first ++ c.inverse_quarters.new.second) (c.inverse_quarters.new.third ++ c.inverse_quarters.new.fourth)
-    (both_below (32 * modulus) c.inverse_quarters.new.first c.inverse_quarters.new.second c.inverse_quarters.ensures.first_room c.inverse_quarters.ensures.second_room)
-    (both_below (32 * modulus) c.inverse_quarters.new.third c.inverse_quarters.new.fourth c.inverse_quarters.ensures.third_room c.inverse_quarters.ensures.fourth_room)
+    (both_below (32 * modulus) c.inverse_quarters.new.first c.inverse_quarters.new.second
+    (λ k l. omega (
+      arith,
+      c.inverse_quarters.ensures.first_room k l,
+      c.inverse_four.ensures.below k (omega (arith, c.requires.long, c.split_at_mut-low.ensures.front_len, c.split_at_mut-low.ensures.back_len, c.split_at_mut-first.ensures.front_len, c.split_at_mut-first.ensures.back_len, c.split_at_mut-third.ensures.front_len, c.split_at_mut-third.ensures.back_len, c.inverse_four.auto.a, c.inverse_quarters.auto.first)),
+      c.inverse_four-2.ensures.below k (omega (arith, c.requires.long, c.split_at_mut-low.ensures.front_len, c.split_at_mut-low.ensures.back_len, c.split_at_mut-first.ensures.front_len, c.split_at_mut-first.ensures.back_len, c.split_at_mut-third.ensures.front_len, c.split_at_mut-third.ensures.back_len, c.inverse_four.auto.a, c.inverse_quarters.auto.first, c.inverse_four-2.auto.a)),
+      c.inverse_four-3.ensures.below k (omega (arith, c.requires.long, c.split_at_mut-low.ensures.front_len, c.split_at_mut-low.ensures.back_len, c.split_at_mut-first.ensures.front_len, c.split_at_mut-first.ensures.back_len, c.split_at_mut-third.ensures.front_len, c.split_at_mut-third.ensures.back_len, c.inverse_four.auto.a, c.inverse_quarters.auto.first, c.inverse_four-3.auto.a)),
+      c.inverse_four-4.ensures.below k (omega (arith, c.requires.long, c.split_at_mut-low.ensures.front_len, c.split_at_mut-low.ensures.back_len, c.split_at_mut-first.ensures.front_len, c.split_at_mut-first.ensures.back_len, c.split_at_mut-third.ensures.front_len, c.split_at_mut-third.ensures.back_len, c.inverse_four.auto.a, c.inverse_quarters.auto.first, c.inverse_four-4.auto.a)),
+    ))
+    (λ k l. omega (arith, c.inverse_quarters.ensures.second_room k l)))
+    (both_below (32 * modulus) c.inverse_quarters.new.third c.inverse_quarters.new.fourth (λ k l. omega (arith, c.inverse_quarters.ensures.third_room k l)) (λ k l. omega (arith, c.inverse_quarters.ensures.fourth_room k l)))
