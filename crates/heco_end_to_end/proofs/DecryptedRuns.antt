@@ -104,7 +104,7 @@ module _ (p : Preset) (e : ℕ) (s : List ℤ) (c : Circuit) (valid : IsCircuit 
 -- ---- a run from material and messages
 
 module _ (p : Preset) (c : Circuit) (k : KeyLists) (material : List EncRow) (messages : List (List ℕ)) (given : IsProvided p c k material) (many : length messages ≡ length c.inputs) where
-  has_keys : HaveKeys p k.s (keys_of (circuit_key p c k)) c.gates
+  pub has_keys : HaveKeys p k.s (keys_of (circuit_key p c k)) c.gates
   unfolding made_key
   has_keys = circuit_has_keys p c k given.valid given.keys
 
@@ -112,7 +112,7 @@ module _ (p : Preset) (c : Circuit) (k : KeyLists) (material : List EncRow) (mes
   unfolding made_key
   has_public = made_public p.n p.b k.s k.e k.a given.keys.errors
 
-  fresh : AllZip (IsFreshFor p k.s) messages (encrypted_messages p (circuit_key p c k) material messages)
+  pub fresh : AllZip (IsFreshFor p k.s) messages (encrypted_messages p (circuit_key p c k) material messages)
   fresh = messages_fresh p k.s (circuit_key p c k) given.keys.secret has_public material messages (given.words.count ∙ sym many) given.words.rows
 
   encrypted : AreCiphertexts p.n (length c.inputs) (encrypted_messages p (circuit_key p c k) material messages)

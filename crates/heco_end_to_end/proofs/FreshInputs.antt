@@ -1,12 +1,10 @@
 -- Messages that are encrypted by material within bounds are fresh, and inputs have their values in the first row.
-use Rattle.std.proofs.Common.{◌≡◌, ◌∙◌, ℕ, ◌-◌, ◌<◌, ◌≤◌, List, [], ◌∷◌, length, map, replicate, refl, ap₂, arith}
+use Rattle.std.proofs.Common.{◌≡◌, ◌∙◌, ℕ, List, [], ◌∷◌, length, map, refl, ap₂, arith}
 use Rattle.std.specs.List.{AllZip}
 use Rattle.std.specs.Prelude.{All}
-use Rattle.std.proofs.lemmas.List.{length-append, length-replicate}
-use Rattle.std.proofs.lemmas.List.Elements.{All-head, All-tail, All-append, All-replicate}
+use Rattle.std.proofs.lemmas.List.Elements.{All-head, All-tail}
 use lib.IntN.{ℤ}
 use Rattle.heco_nums.specs.declared.preset.Preset.{Preset}
-use Rattle.heco_nums.proofs.PresetFacts.{facts}
 use Rattle.heco_key_files.specs.KeyFiles.{EvalLists}
 use Rattle.heco_material.specs.KeyLists.{IsEncRow}
 use Rattle.heco_material.specs.declared.words.EncRow.{EncRow}

@@ -1,5 +1,5 @@
 -- What commands that come one after the other read is what those before them gave.
-use Rattle.std.proofs.Common.{◌≡◌, ◌∙◌, ℕ, ◌-◌, ◌*◌, ◌<◌, ◌^◌, List, [], ◌∷◌, length, map, Ok, Result, refl, sym, ap, subst, arith}
+use Rattle.std.proofs.Common.{◌≡◌, ◌∙◌, ℕ, ◌*◌, ◌<◌, ◌^◌, List, length, map, Ok, Result, refl, sym, ap, subst, arith}
 use Rattle.std.specs.Prelude.{codes}
 use Rattle.std.proofs.lemmas.List.Sums.{count_by-le-length}
 use lib.IntN.{ℤ}
@@ -31,7 +31,7 @@ use Rattle.heco_texts.specs.Outputs.{output_text}
 use Rattle.heco_run_laws.specs.Messages.{input_message}
 use Rattle.heco_run_laws.specs.Results.{results_of}
 use Rattle.heco_run_laws.specs.Runs.{Ciphertext}
-use Rattle.heco_products.specs.KeyProducts.{circuit_key, evaluation_file, secret_file}
+use Rattle.heco_products.specs.KeyProducts.{circuit_key, evaluation_file}
 use Rattle.heco_products.specs.Results.{keys_of, results_file}
 use Rattle.heco_end_to_end.specs.EndToEnd.{IsRunnable}
 use Rattle.heco_end_to_end.specs.InARow.{AreReadInARow, MadeKeysAreRead, PrintsTheMeaningInARow}

@@ -1,2 +1,3 @@
 pub mod EndToEnd
 pub mod InARow
+pub mod Measured

@@ -5,6 +5,7 @@ ghost use Rattle.heco_material.specs.declared.words.EncRow.{EncRow};
 ghost use Rattle.heco_nums.specs.declared.preset.Preset.{Preset};
 ghost use Rattle.heco_end_to_end.specs.EndToEnd.{IsRunnable, PrintsTheMeaning, ResultsAreCiphertexts, RowsPrintTheMeaning, RunsAreRead};
 ghost use Rattle.heco_end_to_end.specs.InARow.{MadeKeysAreRead, PrintsTheMeaningInARow};
+ghost use Rattle.heco_end_to_end.specs.Measured.{RunsAreMeasuredWithinBounds};
 
 /// For all material within bounds and any messages, also of two rows of values: what decrypting the result of a valid
 /// circuit's run prints of a row is the text of the circuit's meaning for the values of that row.
@@ -34,4 +35,10 @@ pub fn results_are_ciphertexts()
 /// text of the circuit's meaning too.
 pub fn commands_in_a_row_print_the_meaning()
     ensures { PrintsTheMeaningInARow }
+{}
+
+/// For all material within bounds and any messages: the encrypted inputs decrypt to them, and the noise that is measured of
+/// each wire of a valid circuit's run is at most its written bound.
+pub fn measured_runs_keep_to_their_bounds()
+    ensures { RunsAreMeasuredWithinBounds }
 {}
