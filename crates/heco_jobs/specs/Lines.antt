@@ -11,7 +11,7 @@ use Rattle.heco_texts.specs.declared.error.InputRule.TheVariants.{InputText, Inp
 use Rattle.heco_jobs.specs.declared.outcome.Outcome.{Outcome}
 use Rattle.heco_jobs.specs.declared.outcome.Outcome.TheVariants.{Ok, Refused, ReadFault, WriteFault, Memory}
 use Rattle.heco_jobs.specs.declared.outcome.Refusal.{Refusal}
-use Rattle.heco_jobs.specs.declared.outcome.Refusal.TheVariants.{Usage, SourceLong, At, TooDeep, InputLong, InputAt, InputMissing, Length, Bounds, Malformed, Noisy, WrongPreset, Count, MissingRelin, MissingKey}
+use Rattle.heco_jobs.specs.declared.outcome.Refusal.TheVariants.{Usage, SourceLong, At, TooDeep, InputLong, InputAt, InputMissing, SecondLong, SecondAt, SecondMissing, Length, Bounds, Malformed, Noisy, WrongPreset, Count, MissingRelin, MissingKey}
 use Rattle.heco_jobs.specs.Words.{name_of}
 
 -- these texts one after another
@@ -97,6 +97,9 @@ refusal_line words (TooDeep out index bound) = deep_line (name_of words 1) out i
 refusal_line words InputLong = long_line (input_name words) (codes "InputLong")
 refusal_line words (InputAt rule line) = input_line (input_name words) (input_rule rule) line
 refusal_line words (InputMissing which) = missing_line (input_name words) which
+refusal_line words SecondLong = long_line (name_of words 3) (codes "InputLong")
+refusal_line words (SecondAt rule line) = input_line (name_of words 3) (input_rule rule) line
+refusal_line words (SecondMissing which) = missing_line (name_of words 3) which
 refusal_line words (Length which at) = offset_line (name_of words which) (codes "Length") at
 refusal_line words (Bounds which at) = offset_line (name_of words which) (codes "Bounds") at
 refusal_line words (Malformed which at) = offset_line (name_of words which) (codes "Malformed") at

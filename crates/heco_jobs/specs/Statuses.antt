@@ -1,7 +1,7 @@
 use Rattle.std.specs.Prelude.{ℕ}
 use Rattle.heco_jobs.specs.declared.outcome.Outcome.{Outcome}
 use Rattle.heco_jobs.specs.declared.outcome.Outcome.TheVariants.{Ok, Refused, ReadFault, WriteFault, Memory}
-use Rattle.heco_jobs.specs.declared.outcome.Refusal.TheVariants.{Usage, SourceLong, At, TooDeep, InputLong, InputAt, InputMissing, Length, Bounds, Malformed, Noisy, WrongPreset, Count, MissingRelin, MissingKey}
+use Rattle.heco_jobs.specs.declared.outcome.Refusal.TheVariants.{Usage, SourceLong, At, TooDeep, InputLong, InputAt, InputMissing, SecondLong, SecondAt, SecondMissing, Length, Bounds, Malformed, Noisy, WrongPreset, Count, MissingRelin, MissingKey}
 
 -- the exit status of an outcome
 abbrev pub status_of : Outcome → ℕ
@@ -13,6 +13,9 @@ status_of (Refused Usage) = 2
 status_of (Refused InputLong) = 3
 status_of (Refused (InputAt rule line)) = 3
 status_of (Refused (InputMissing which)) = 3
+status_of (Refused SecondLong) = 3
+status_of (Refused (SecondAt rule line)) = 3
+status_of (Refused (SecondMissing which)) = 3
 status_of (Refused (Length which at)) = 3
 status_of (Refused (Bounds which at)) = 3
 status_of (Refused (Malformed which at)) = 3

@@ -6,7 +6,7 @@ use heco_nums::Memory;
 use heco_texts::InputRule;
 
 /// Why words or a file are refused. Lines and columns are from 1. `which` is the number of the file word, but in
-/// `InputMissing`.
+/// `InputMissing` and `SecondMissing`.
 #[derive(Clone, Copy, Debug, PartialEq, Eq)]
 pub enum Refusal {
     Usage,
@@ -22,6 +22,12 @@ pub enum Refusal {
     InputAt { rule: InputRule, line: u32 },
     /// The first input, counted from 0, that no line of the input text gave.
     InputMissing { which: u32 },
+    /// The second input text has more than 4,194,304 bytes.
+    SecondLong,
+    /// The first line of the second input text that breaks a rule, and the first rule that it breaks.
+    SecondAt { rule: InputRule, line: u32 },
+    /// The first input, counted from 0, that no line of the second input text gave.
+    SecondMissing { which: u32 },
     /// The material's length is not the stated one; the smaller of the two.
     Length { which: u8, at: u64 },
     /// The material's first word out of bounds begins there.
@@ -64,6 +70,9 @@ impl Outcome {
             Outcome::Refused(Refusal::InputLong) => 3,
             Outcome::Refused(Refusal::InputAt { .. }) => 3,
             Outcome::Refused(Refusal::InputMissing { .. }) => 3,
+            Outcome::Refused(Refusal::SecondLong) => 3,
+            Outcome::Refused(Refusal::SecondAt { .. }) => 3,
+            Outcome::Refused(Refusal::SecondMissing { .. }) => 3,
             Outcome::Refused(Refusal::Length { .. }) => 3,
             Outcome::Refused(Refusal::Bounds { .. }) => 3,
             Outcome::Refused(Refusal::Malformed { .. }) => 3,

@@ -306,6 +306,11 @@ fn write_refusal<E: Sink>(words: &[String], refusal: Refusal, err: &mut E) -> Re
             write_input(input_name(words), input_rule(rule), line, err)
         }
         Refusal::InputMissing { which } => write_missing(input_name(words), which, err),
+        Refusal::SecondLong => write_long(name_of(words, 3), b"InputLong".as_slice(), err),
+        Refusal::SecondAt { rule, line } => {
+            write_input(name_of(words, 3), input_rule(rule), line, err)
+        }
+        Refusal::SecondMissing { which } => write_missing(name_of(words, 3), which, err),
         Refusal::Length { which, at } => {
             write_offset(name_of(words, which), b"Length".as_slice(), at, err)
         }
