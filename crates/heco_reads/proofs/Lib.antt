@@ -1,4 +1,5 @@
 pub mod InputLaws
+pub mod SecondLaws
 pub mod FirstLaws
 pub mod SourceLaws
 pub mod CircuitLaws

@@ -12,7 +12,7 @@ use Rattle.heco_texts.specs.declared.error.InputErr.TheVariants as input
 use Rattle.heco_jobs.specs.declared.outcome.Outcome.{Outcome}
 use Rattle.heco_jobs.specs.declared.outcome.Outcome.TheVariants.{Refused, Memory}
 use Rattle.heco_jobs.specs.declared.outcome.Refusal.{Refusal}
-use Rattle.heco_jobs.specs.declared.outcome.Refusal.TheVariants.{SourceLong, At, InputLong, InputAt, InputMissing}
+use Rattle.heco_jobs.specs.declared.outcome.Refusal.TheVariants.{SourceLong, At, InputLong, InputAt, InputMissing, SecondLong, SecondAt, SecondMissing}
 
 -- the text is too long, or this is the first rule of reading that it breaks, or else the first rule of typing
 abbrev pub IsSourceRefusal : List ℕ → Refusal → Type 0
@@ -31,6 +31,16 @@ IsTextRefusal t shapes text refusal = ⊥
 abbrev pub IsValuesRefusal : Source → List ℕ → Refusal → Type 0
 IsValuesRefusal s text refusal = IsTextRefusal (modulus_of s) (input_shapes s) text refusal
 
+-- a second text for the same inputs is refused exactly as a first one would be, by names of its own
+abbrev pub IsSecondTextRefusal : ℕ → List Shape → List ℕ → Refusal → Type 0
+IsSecondTextRefusal t shapes text SecondLong = IsTextRefusal t shapes text InputLong
+IsSecondTextRefusal t shapes text (SecondAt rule line) = IsTextRefusal t shapes text (InputAt rule line)
+IsSecondTextRefusal t shapes text (SecondMissing which) = IsTextRefusal t shapes text (InputMissing which)
+IsSecondTextRefusal t shapes text refusal = ⊥
+
+abbrev pub IsSecondRefusal : Source → List ℕ → Refusal → Type 0
+IsSecondRefusal s text refusal = IsSecondTextRefusal (modulus_of s) (input_shapes s) text refusal
+
 -- ---- what an error is answered with
 
 abbrev pub source_answer : SourceErr → Outcome
@@ -43,3 +53,10 @@ text_answer input.InputLong = Refused InputLong
 text_answer (input.At rule line) = Refused (InputAt rule line)
 text_answer (input.InputMissing which) = Refused (InputMissing which)
 text_answer input.Memory = Memory
+
+-- what is answered of the second text, where this would be answered of the first
+abbrev pub second_answer : Outcome → Outcome
+second_answer (Refused InputLong) = Refused SecondLong
+second_answer (Refused (InputAt rule line)) = Refused (SecondAt rule line)
+second_answer (Refused (InputMissing which)) = Refused (SecondMissing which)
+second_answer outcome = outcome

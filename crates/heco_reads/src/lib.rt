@@ -6,6 +6,7 @@ mod circuit_file;
 mod encryptions_file;
 mod key_files;
 mod material_file;
+mod second_file;
 mod source;
 mod values_file;
 
@@ -14,5 +15,6 @@ pub use circuit_file::read_circuit;
 pub use encryptions_file::read_encryptions;
 pub use key_files::{read_evaluation, read_secret};
 pub use material_file::read_material;
+pub use second_file::read_second_inputs;
 pub use source::read_source;
 pub use values_file::{read_inputs, read_values};
