@@ -1,3 +1,4 @@
 pub mod OnePreset
 pub mod CircuitFacts
 pub mod Products
+pub mod Pairs

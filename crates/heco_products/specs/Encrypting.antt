@@ -5,8 +5,11 @@ use Rattle.heco_ciphertext_files.specs.declared.kind.FileKind.TheVariants.{Cts}
 use Rattle.heco_key_files.specs.KeyFiles.{EvalLists}
 use Rattle.heco_material.specs.declared.words.EncRow.{EncRow}
 use Rattle.heco_nums.specs.declared.preset.Preset.{Preset}
+use Rattle.heco_meaning.specs.Meanings.{filled}
+use Rattle.heco_run_laws.specs.Carried.{two_row_messages}
 use Rattle.heco_run_laws.specs.Messages.{input_message}
 use Rattle.heco_scheme.specs.Encryption.{encrypted}
+use Rattle.heco_slots.specs.Rows.{encoded_two}
 
 -- ---- of any messages
 
@@ -33,3 +36,14 @@ encrypted_inputs p key rows inputs = encrypted_messages p key rows (map (input_m
 
 abbrev pub inputs_file : Preset → EvalLists → List EncRow → List (List ℕ) → List ℕ
 inputs_file p key rows inputs = messages_file p key rows (map (input_message p) inputs)
+
+-- ---- of inputs in two rows: the message is the plaintext whose slots are the values of the one text in the first row and of the other in the second, and then zeros
+
+abbrev pub pair_message : Preset → List ℕ → List ℕ → List ℕ
+pair_message p first second = encoded_two p (filled p.slots first) (filled p.slots second)
+
+abbrev pub encrypted_pairs : Preset → EvalLists → List EncRow → List (List ℕ) → List (List ℕ) → List (List (List ℕ))
+encrypted_pairs p key rows first second = encrypted_messages p key rows (two_row_messages p first second)
+
+abbrev pub pairs_file : Preset → EvalLists → List EncRow → List (List ℕ) → List (List ℕ) → List ℕ
+pairs_file p key rows first second = messages_file p key rows (two_row_messages p first second)

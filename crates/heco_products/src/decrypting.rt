@@ -3,6 +3,8 @@ ghost use Rattle.heco_scheme.specs.Ciphertexts.{IsCiphertext};
 ghost use Rattle.heco_ciphertext_files.specs.CiphertextFiles.{AreCiphertexts};
 ghost use Rattle.heco_products.specs.Decrypting.{behind_next, decrypted_slots, decrypted_wires, next_slots, output_wire_count, outputs_text};
 ghost use Rattle.heco_circuit.specs.Plans.{shape_of};
+ghost use Rattle.heco_meaning.specs.Meanings.{output_values};
+ghost use Rattle.heco_texts.specs.Outputs.{output_text};
 ghost use Rattle.heco_slots.specs.Rows.{first_row};
 
 use crate::wires::output_wires;
@@ -60,7 +62,7 @@ fn wire_slots(
 }
 
 // The ciphertexts behind the next wire.
-fn behind_next(is_output: bool, left: &[Ct]) -> &[Ct]
+pub(crate) fn behind_next(is_output: bool, left: &[Ct]) -> &[Ct]
     ensures { result.now ≡ behind_next is_output left.now }
 {
     match left {
@@ -114,8 +116,24 @@ fn shapes_of(alloc: Global, outputs: &[Output]) -> Result<List<Shape>, Memory>
     Ok(shapes)
 }
 
+// The text of the circuit's outputs, where these are the slots of its wires.
+pub(crate) fn printed(
+    alloc: Global,
+    circuit: &Circuit,
+    slots: &[List<u32>],
+) -> Result<Bytes, Memory>
+    ensures { IfOk result (λ text. text ≡ output_text (map shape_of circuit.now.outputs) (map (output_values slots.now) circuit.now.outputs)) }
+{
+    let _ = circuit.preset();
+    let outputs = circuit.outputs().as_slice();
+    let shapes = shapes_of(alloc, outputs)?;
+    let rows = rows_of(alloc, slots, outputs)?;
+    print_outputs(alloc, &shapes, &Values { rows })
+}
+
 /// The text of the circuit's outputs: a number is printed as it is, and a slot of a wire as that of the plaintext that
 /// the wire's ciphertext decrypts to. The ciphertexts are those of the outputs' different wires, by rising number.
+#[tactic(auto, unfolding(crate::specs::Decrypting::row_text))]
 pub fn outputs_text(
     alloc: Global,
     circuit: &Circuit,
@@ -125,11 +143,7 @@ pub fn outputs_text(
     requires { AreCiphertexts key.now.preset.n (output_wire_count circuit.now) results.now }
     ensures { IfOk result (λ text. text ≡ outputs_text key.now.preset circuit.now key.now.places results.now) }
 {
-    let _ = circuit.preset();
-    let outputs = circuit.outputs().as_slice();
-    let shapes = shapes_of(alloc, outputs)?;
     let wires = output_wires(alloc, circuit)?;
     let slots = decrypt_wires(alloc, key, wires.as_slice(), results)?;
-    let rows = rows_of(alloc, slots.as_slice(), outputs)?;
-    print_outputs(alloc, &shapes, &Values { rows })
+    printed(alloc, circuit, slots.as_slice())
 }

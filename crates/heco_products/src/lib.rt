@@ -1,10 +1,12 @@
 //! What a circuit's inputs are encrypted to, and what its result is decrypted to.
 #![tactic(auto)]
 
+mod both_rows;
 mod decrypting;
 mod encrypting;
 mod wires;
 
+pub use both_rows::rows_texts;
 pub use decrypting::outputs_text;
 pub use encrypting::{encrypted_inputs, inputs_file};
 pub use wires::{output_wire_count, output_wires};

@@ -1,30 +1,20 @@
-use Rattle.std.proofs.Common.{◌≡◌, ◌∙◌, ◌≤◌, ℕ, Bool, List, ap, sym, subst, map, length}
-use Rattle.std.specs.Prelude.{All, IfOk}
-use Rattle.std.proofs.lemmas.List.{length-map}
+use Rattle.std.proofs.Common.{◌≡◌, ◌∙◌, Bool, List, ℕ, ap, subst, map}
+use Rattle.std.specs.Prelude.{IfOk}
+use Rattle.heco_circuit.specs.Plans.{shape_of}
 use Rattle.heco_meaning.specs.Meanings.{output_values}
 use Rattle.heco_texts.specs.Outputs.{output_text}
-use Rattle.heco_products.specs.Decrypting.{row_text, output_wires, decrypted_wires}
-use Rattle.heco_circuit.specs.Plans.{shape_of}
-use Rattle.heco_products.proofs.CircuitFacts.{short_outputs}
+use Rattle.heco_products.specs.Decrypting.{row_text, output_wire_count, output_wires, decrypted_wires}
 use Rattle.heco_products.proofs.Products.{are_ciphertexts}
 use Rattle.heco_slots.specs.Rows.{first_row}
 use Rattle.heco_products.proofs.decrypting.outputs_text.Goals as goal
 
-pub shapes_of-requires : goal.shapes_of-requires
-shapes_of-requires c = subst (All (λ o. length o.cells ≤ 4096)) (sym (c.as_slice-outputs.ensures ∙ c.outputs.ensures)) (short_outputs c.args.circuit.now c.preset.ensures.valid)
-
-pub print_outputs-requires : goal.print_outputs-requires
-print_outputs-requires c = ap length c.in_ok-rows.ensures ∙ length-map c.as_slice-outputs.result.now _ ∙ sym (ap length c.in_ok-shapes.ensures ∙ length-map c.as_slice-outputs.result.now _)
+pub decrypt_wires-requires : goal.decrypt_wires-requires
+decrypt_wires-requires c = record { ciphertexts = are_ciphertexts c.args.key.now.preset.n (output_wire_count c.args.circuit.now) c.args.results.now c.requires }
 
 pub returns : goal.returns
 unfolding row_text
 returns c =
     let outputs = c.args.circuit.now.outputs in
     let slots_of : List Bool → List (List ℕ) = λ wires. decrypted_wires c.args.key.now.preset first_row c.args.key.now.places wires c.args.results.now in
-    let same : c.as_slice-outputs.result.now ≡ outputs = c.as_slice-outputs.ensures ∙ c.outputs.ensures in
-    let shapes : c.in_ok-shapes.shapes ≡ map shape_of outputs = c.in_ok-shapes.ensures ∙ ap (map shape_of) same in
     let slots : c.as_slice-2.result.now ≡ slots_of (output_wires c.args.circuit.now) = c.as_slice-2.ensures ∙ c.in_ok-slots.ensures.slots ∙ ap slots_of (c.as_slice.ensures.value ∙ c.in_ok-wires.ensures.marked) in
-    let rows : c.in_ok-rows.rows ≡ map (output_values (slots_of (output_wires c.args.circuit.now))) outputs =
-    c.in_ok-rows.ensures ∙ ap (λ w. map (output_values w) c.as_slice-outputs.result.now) slots ∙ ap (map (output_values (slots_of (output_wires c.args.circuit.now)))) same in
-    subst (λ x. IfOk c.print_outputs.result (λ text. text ≡ output_text x (map (output_values (slots_of (output_wires c.args.circuit.now))) outputs))) shapes
-    (subst (λ y. IfOk c.print_outputs.result (λ text. text ≡ output_text c.in_ok-shapes.shapes y)) rows c.print_outputs.ensures)
+    subst (λ x. IfOk c.printed.result (λ text. text ≡ output_text (map shape_of outputs) (map (output_values x) outputs))) slots c.printed.ensures
