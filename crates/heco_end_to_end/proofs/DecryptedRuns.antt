@@ -7,9 +7,7 @@ use Rattle.std.proofs.lemmas.List.{length-map}
 use Rattle.std.proofs.lemmas.List.Elements.{All-nil, All-cons, All-map, All-weaker, filter_passes}
 use Rattle.std.proofs.lemmas.List.FromFn.{get_or-map-range_with_len}
 use lib.IntN.{ℤ}
-use Rattle.heco_nums.specs.Presets.{slots_of}
 use Rattle.heco_nums.specs.declared.preset.Preset.{Preset}
-use Rattle.heco_nums.specs.declared.shape.Shape.{Shape}
 use Rattle.heco_ciphertext_files.specs.CiphertextFiles.{IsTwoParts, AreCiphertexts}
 use Rattle.heco_circuit.specs.Circuits.{IsCircuit}
 use Rattle.heco_circuit.specs.Plans.{Plan as Circuit, wire_parts, shape_of}
@@ -22,13 +20,13 @@ use Rattle.heco_products.specs.Decrypting.{output_wires, output_wire_count, decr
 use Rattle.heco_products.specs.Encrypting.{encrypted_messages}
 use Rattle.heco_products.specs.KeyProducts.{circuit_key}
 use Rattle.heco_products.specs.Results.{keys_of}
-use Rattle.heco_products.proofs.CircuitFacts.{short_inputs}
-use Rattle.heco_products.proofs.Products.{fit_below, fit_count, fit_short}
+use Rattle.heco_products.proofs.Pairs.{rows_fit}
+use Rattle.heco_products.proofs.Products.{fit_count}
 use Rattle.heco_scheme.specs.Encryption.{decrypted}
 use Rattle.heco_scheme.specs.Keys.{IsPublicKey}
 use Rattle.heco_slots.specs.Rows.{first_row, row_of}
 use Rattle.heco_texts.specs.Outputs.{output_text}
-use Rattle.heco_run_laws.specs.Carried.{FitsRow, HasShape, AllShaped, IsFreshFor, HaveKeys}
+use Rattle.heco_run_laws.specs.Carried.{HasShape, AllShaped, IsFreshFor, HaveKeys}
 use Rattle.heco_run_laws.specs.Messages.{input_message}
 use Rattle.heco_run_laws.specs.Results.{is_output_wire, wire_count, result_wires, results_of}
 use Rattle.heco_run_laws.specs.Runs.{Ciphertext, ciphertext_at, run_of}
@@ -136,14 +134,8 @@ runs_are_read p c k material messages given many = runs_read p c k material mess
 -- ---- a run from material and values
 
 module _ (p : Preset) (c : Circuit) (k : KeyLists) (material : List EncRow) (rows : List (List ℕ)) (runs : IsRunnable p c k material rows) where
-  rows_fit : All (FitsRow p) rows
-  rows_fit =
-      let slots : slots_of c.preset ≡ p.slots = ap slots_of (sym runs.provided.preset) ∙ sym p.row.3 in
-      let short : All (λ (x : Shape). x.len ≤ p.slots) c.inputs = subst (λ n. All (λ (x : Shape). x.len ≤ n) c.inputs) slots (short_inputs c runs.provided.valid) in
-      λ j d l. (fit_short p.t p.slots c.inputs rows runs.fit short j d l, fit_below p.t c.inputs rows runs.fit j d l)
-
   pub many_rows : length (map (input_message p) rows) ≡ length c.inputs
   many_rows = length-map rows (input_message p) ∙ fit_count p.t c.inputs rows runs.fit
 
   pub prints_the_meaning : PrintsTheMeaning p c k material rows
-  prints_the_meaning = rows_print p first_row c k material (map (input_message p) rows) rows refl runs.provided many_rows (input_rows p rows rows_fit)
+  prints_the_meaning = rows_print p first_row c k material (map (input_message p) rows) rows refl runs.provided many_rows (input_rows p rows (rows_fit p c rows runs.provided.preset runs.provided.valid runs.fit))

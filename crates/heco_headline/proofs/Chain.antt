@@ -1,10 +1,10 @@
 -- The chain from a source to what is decrypted.
-use Rattle.std.proofs.Common.{◌≡◌, ◌∙◌, ℕ, List, Ok, sym, ap, subst}
+use Rattle.std.proofs.Common.{◌≡◌, ◌∙◌, ℕ, List, Ok, map, sym, ap, subst}
 use Rattle.heco_nums.specs.Presets.{modulus_of}
 use Rattle.heco_nums.specs.declared.preset.Preset.{Preset}
 use Rattle.heco_nums.specs.declared.shape.Shape.{Shape}
 use Rattle.heco_nums.specs.declared.shape.Values.{Values}
-use Rattle.heco_circuit.specs.Plans.{Plan as Circuit}
+use Rattle.heco_circuit.specs.Plans.{Plan as Circuit, shape_of}
 use Rattle.heco_material.specs.KeyLists.{KeyLists}
 use Rattle.heco_material.specs.declared.words.EncRow.{EncRow}
 use Rattle.heco_meaning.specs.Meanings.{meaning_of}
@@ -28,12 +28,16 @@ module _ (source : Source) (c : Circuit) (p : Preset) (rows : List (List ℕ)) (
   source_fit : HaveFit (modulus source) (input_shapes source) rows
   source_fit = subst (λ shapes. HaveFit (modulus source) shapes rows) good.inputs (subst (λ t. HaveFit t c.inputs rows) (sym modulus_is) runs.fit)
 
-  pub plain_run : IsPlainText source rows (outputs_text p c k.s (run_result p c k material rows))
-  plain_run = record {
+  -- the text of the circuit's meaning is that of the source's execution
+  pub plain_of_meaning : (text : List ℕ) → text ≡ output_text (map shape_of c.outputs) (meaning_of c rows) → IsPlainText source rows text
+  plain_of_meaning text means = record {
     outputs = meaning_of c rows;
     executed = good.meaning rows source_fit;
-    is = prints_the_meaning p c k material rows runs ∙ ap (λ (shapes : List Shape). output_text shapes (meaning_of c rows)) good.outputs;
+    is = means ∙ ap (λ (shapes : List Shape). output_text shapes (meaning_of c rows)) good.outputs;
   }
+
+  pub plain_run : IsPlainText source rows (outputs_text p c k.s (run_result p c k material rows))
+  plain_run = plain_of_meaning (outputs_text p c k.s (run_result p c k material rows)) (prints_the_meaning p c k material rows runs)
 
 module _ (source : Source) (c : Circuit) (p : Preset) (input : List ℕ) (v : Values) (k : KeyLists) (material : List EncRow) (chain : IsChain source c p input v k material) where
   own : HaveOwnNames (input_shapes source)
