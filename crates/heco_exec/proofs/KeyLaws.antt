@@ -24,11 +24,11 @@ use Rattle.heco_syntax.specs.declared.tree.Source.{Source}
 use Rattle.heco_texts.specs.Answers.{IsRead}
 use Rattle.heco_jobs.specs.Stages.{IsThingRead}
 use Rattle.heco_jobs.specs.declared.outcome.Outcome.{Outcome}
+use Rattle.heco_jobs.specs.declared.outcome.Refusal.{Refusal}
 use Rattle.heco_reads.specs.MaterialFiles.{SpellsKeys, IsKeysRefusal, SpellsEncryptions, IsEncryptionsRefusal}
-use Rattle.heco_reads.specs.SourceFiles.{IsTextRefusal, IsValuesRefusal}
 use Rattle.heco_tasks.proofs.KeyLaws.{count_is, material_amounts}
 use Rattle.heco_exec.specs.Chain.{AreKeysFor}
-use Rattle.heco_exec.specs.ExecTask.{IsKeyMaterialOf, IsNoKeyMaterialOf, IsEncryptionMaterialOf, IsNoEncryptionMaterialOf}
+use Rattle.heco_exec.specs.ExecTask.{IsKeyMaterialOf, IsNoKeyMaterialIn, IsEncryptionMaterialOf, IsNoEncryptionMaterialIn}
 
 -- ---- key words for a circuit
 
@@ -60,25 +60,26 @@ circuit_key_is c k e h is =
 -- ---- what is judged for a good circuit is judged for its source
 
 module _ {S : Type 0} (st : store.Ghosts S) (words : List (List ℕ)) (s : Source) (c : Circuit) (good : Good s c) (q : Preset) (old new : S) where
-  pub keys_judged : (needs : KeyNeeds) (result : Result KeyLists Outcome) → q ≡ preset_of c.preset → needs.relin ≡ needs_relin c → needs.turns ≡ needed_turns c
-      → IsThingRead st words 3 (SpellsKeys q (key_count needs)) (IsKeysRefusal 3 q (key_count needs)) old new result
-      → IsThingRead st words 3 (IsKeyMaterialOf s) (IsNoKeyMaterialOf s) old new result
-  keys_judged needs result whole relin turns read =
+  pub keys_judged : (which : ℕ) (needs : KeyNeeds) (result : Result KeyLists Outcome) → q ≡ preset_of c.preset → needs.relin ≡ needs_relin c → needs.turns ≡ needed_turns c
+      → IsThingRead st words which (SpellsKeys q (key_count needs)) (IsKeysRefusal which q (key_count needs)) old new result
+      → IsThingRead st words which (IsKeyMaterialOf s) (IsNoKeyMaterialIn which s) old new result
+  keys_judged which needs result whole relin turns read =
       let count : key_count needs ≡ source_keys s = count_is c needs relin turns ∙ sym (source_keys_are_needed s c good) in
-      subst (λ p. IsThingRead st words 3 (SpellsKeys p (source_keys s)) (IsKeysRefusal 3 p (source_keys s)) old new result) (whole ∙ ap preset_of good.preset)
-      (subst (λ n. IsThingRead st words 3 (SpellsKeys q n) (IsKeysRefusal 3 q n) old new result) count read)
+      subst (λ p. IsThingRead st words which (SpellsKeys p (source_keys s)) (IsKeysRefusal which p (source_keys s)) old new result) (whole ∙ ap preset_of good.preset)
+      (subst (λ n. IsThingRead st words which (SpellsKeys q n) (IsKeysRefusal which q n) old new result) count read)
 
-  pub encryptions_judged : (n : ℕ) (result : Result (List EncRow) Outcome) → q ≡ preset_of c.preset → n ≡ length c.inputs
-      → IsThingRead st words 4 (SpellsEncryptions q n) (IsEncryptionsRefusal 4 q n) old new result
-      → IsThingRead st words 4 (IsEncryptionMaterialOf s) (IsNoEncryptionMaterialOf s) old new result
-  encryptions_judged n result whole many read =
+  pub encryptions_judged : (which n : ℕ) (result : Result (List EncRow) Outcome) → q ≡ preset_of c.preset → n ≡ length c.inputs
+      → IsThingRead st words which (SpellsEncryptions q n) (IsEncryptionsRefusal which q n) old new result
+      → IsThingRead st words which (IsEncryptionMaterialOf s) (IsNoEncryptionMaterialIn which s) old new result
+  encryptions_judged which n result whole many read =
       let count : n ≡ length (input_shapes s) = many ∙ ap (λ (shapes : List Shape). length shapes) good.inputs in
-      subst (λ p. IsThingRead st words 4 (SpellsEncryptions p (length (input_shapes s))) (IsEncryptionsRefusal 4 p (length (input_shapes s))) old new result) (whole ∙ ap preset_of good.preset)
-      (subst (λ m. IsThingRead st words 4 (SpellsEncryptions q m) (IsEncryptionsRefusal 4 q m) old new result) count read)
+      subst (λ p. IsThingRead st words which (SpellsEncryptions p (length (input_shapes s))) (IsEncryptionsRefusal which p (length (input_shapes s))) old new result) (whole ∙ ap preset_of good.preset)
+      (subst (λ m. IsThingRead st words which (SpellsEncryptions q m) (IsEncryptionsRefusal which q m) old new result) count read)
 
-  pub inputs_judged : (shapes : List Shape) (result : Result Values Outcome) → q.id ≡ c.preset → shapes ≡ c.inputs
-      → IsThingRead st words 2 (IsRead q.t shapes) (IsTextRefusal q.t shapes) old new result → IsThingRead st words 2 (IsInput s) (IsValuesRefusal s) old new result
-  inputs_judged shapes result id same read =
+  -- of a text of inputs, however it is refused
+  pub inputs_judged : (which : ℕ) (Refuses : ℕ → List Shape → List ℕ → Refusal → Type 0) (shapes : List Shape) (result : Result Values Outcome) → q.id ≡ c.preset → shapes ≡ c.inputs
+      → IsThingRead st words which (IsRead q.t shapes) (Refuses q.t shapes) old new result → IsThingRead st words which (IsInput s) (Refuses (modulus s) (input_shapes s)) old new result
+  inputs_judged which Refuses shapes result id same read =
       let t_is : q.t ≡ modulus s = q.row.4 ∙ ap modulus_of (id ∙ good.preset) in
-      subst (λ t. IsThingRead st words 2 (IsRead t (input_shapes s)) (IsTextRefusal t (input_shapes s)) old new result) t_is
-      (subst (λ x. IsThingRead st words 2 (IsRead q.t x) (IsTextRefusal q.t x) old new result) (same ∙ good.inputs) read)
+      subst (λ t. IsThingRead st words which (IsRead t (input_shapes s)) (Refuses t (input_shapes s)) old new result) t_is
+      (subst (λ x. IsThingRead st words which (IsRead q.t x) (Refuses q.t x) old new result) (same ∙ good.inputs) read)

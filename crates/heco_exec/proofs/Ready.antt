@@ -16,23 +16,23 @@ use Rattle.heco_exec.specs.ExecTask.{exec_job, accepted_job, inputs_job, keys_jo
 use Rattle.heco_exec.specs.Headline.{AreGiven}
 use Rattle.heco_exec.specs.Laws.{GivenIsReady}
 
-module _ (words : List (List ℕ)) (agents : Agents) (file : Files) where
-  -- what a file was read as, it can be read as whatever text is there
-  at_text : {Thing : Type 0} (which : ℕ) (Fits : List ℕ → Thing → Type 0) (x : Thing) (r : IsReadAs words file which Fits x) (text : List ℕ) → file (name_of words which) ≡ Some text → Fits text x
-  at_text which Fits x r text there = subst (λ t. Fits t x) (same_Some r.text text (sym r.there ∙ there)) r.fits
+-- what a file was read as, it can be read as whatever text is there
+pub at_text : (words : List (List ℕ)) (file : Files) {Thing : Type 0} (which : ℕ) (Fits : List ℕ → Thing → Type 0) (x : Thing) → IsReadAs words file which Fits x → (text : List ℕ) → file (name_of words which) ≡ Some text → Fits text x
+at_text words file which Fits x r text there = subst (λ t. Fits t x) (same_Some r.text text (sym r.there ∙ there)) r.fits
 
+module _ (words : List (List ℕ)) (agents : Agents) (file : Files) where
   module _ (source : Source) (values : Values) (keys : KeyLists) (material : List EncRow) (given : AreGiven words file source values keys material) where
     clear_encryptions : (v : Values) (k : KeyLists) → IsClear words (encryptions_job agents source v k) file
     unfolding IsClear encryptions_job
-    clear_encryptions v k = λ text there. ((material, at_text 4 _ material given.emat text there), λ x fits. tt)
+    clear_encryptions v k = λ text there. ((material, at_text words file 4 _ material given.emat text there), λ x fits. tt)
 
     clear_keys : (v : Values) → IsClear words (keys_job agents source v) file
     unfolding IsClear keys_job
-    clear_keys v = λ text there. ((keys, at_text 3 _ keys given.kmat text there), λ k fits. clear_encryptions v k)
+    clear_keys v = λ text there. ((keys, at_text words file 3 _ keys given.kmat text there), λ k fits. clear_encryptions v k)
 
     clear_inputs : IsClear words (inputs_job agents source) file
     unfolding IsClear inputs_job
-    clear_inputs = λ text there. ((values, at_text 2 _ values given.inputs text there), λ v fits. clear_keys v)
+    clear_inputs = λ text there. ((values, at_text words file 2 _ values given.inputs text there), λ v fits. clear_keys v)
 
     clear_accepted : IsClear words (accepted_job agents source) file
     unfolding IsClear accepted_job
@@ -41,7 +41,7 @@ module _ (words : List (List ℕ)) (agents : Agents) (file : Files) where
     pub clear : IsClear words (exec_job agents) file
     unfolding IsClear exec_job
     clear = λ text there.
-        let here : IsSource text source = at_text 1 IsSource source given.src text there in
+        let here : IsSource text source = at_text words file 1 IsSource source given.src text there in
         ((source, here), λ s fits. subst (λ x. IsClear words (accepted_job agents x) file) (one_source text source s here fits) clear_accepted)
 
     has_encryptions : (v : Values) (k : KeyLists) → HasFiles words (encryptions_job agents source v k) file

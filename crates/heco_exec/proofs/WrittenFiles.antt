@@ -58,7 +58,7 @@ not_true : (b : Bool) → not b ≡ true → b ≡ false
 not_true true e = absurd (let no : ⊥ = cc in no)
 not_true false e = refl
 
-abbrev AreOthers : List ℕ → List (List ℕ) → Type 0
+abbrev pub AreOthers : List ℕ → List (List ℕ) → Type 0
 AreOthers w [] = Unit {0}
 AreOthers w (v ∷ vs) = (w ≢ v) × AreOthers w vs
 
@@ -69,11 +69,11 @@ others : (w : List ℕ) (vs : List (List ℕ)) → list_any (bytes_eq w) vs ≡ 
 others w [] e = tt
 others w (v ∷ vs) e = let h = or_none (bytes_eq w v) (list_any (bytes_eq w) vs) e in (differs w v h.0, others w vs h.1)
 
-abbrev AllDiffer : List (List ℕ) → Type 0
+abbrev pub AllDiffer : List (List ℕ) → Type 0
 AllDiffer [] = Unit {0}
 AllDiffer (w ∷ ws) = AreOthers w ws × AllDiffer ws
 
-all_differ : (ws : List (List ℕ)) → are_distinct ws ≡ true → AllDiffer ws
+pub all_differ : (ws : List (List ℕ)) → are_distinct ws ≡ true → AllDiffer ws
 all_differ [] e = tt
 all_differ (w ∷ ws) e = let h = and_both (not (list_any (bytes_eq w) ws)) (are_distinct ws) e in (others w ws (not_true _ h.0), all_differ ws h.1)
 

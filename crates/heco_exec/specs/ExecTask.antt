@@ -37,15 +37,21 @@ source_preset s = preset_of (preset_named s)
 abbrev pub IsKeyMaterialOf : Source → List ℕ → KeyLists → Type 0
 IsKeyMaterialOf s text k = SpellsKeys (source_preset s) (source_keys s) text k
 
+abbrev pub IsNoKeyMaterialIn : ℕ → Source → List ℕ → Refusal → Type 0
+IsNoKeyMaterialIn which s text refusal = IsKeysRefusal which (source_preset s) (source_keys s) text refusal
+
 abbrev pub IsNoKeyMaterialOf : Source → List ℕ → Refusal → Type 0
-IsNoKeyMaterialOf s text refusal = IsKeysRefusal 3 (source_preset s) (source_keys s) text refusal
+IsNoKeyMaterialOf s text refusal = IsNoKeyMaterialIn 3 s text refusal
 
 -- encryption material for its inputs
 abbrev pub IsEncryptionMaterialOf : Source → List ℕ → List EncRow → Type 0
 IsEncryptionMaterialOf s text material = SpellsEncryptions (source_preset s) (length (input_shapes s)) text material
 
+abbrev pub IsNoEncryptionMaterialIn : ℕ → Source → List ℕ → Refusal → Type 0
+IsNoEncryptionMaterialIn which s text refusal = IsEncryptionsRefusal which (source_preset s) (length (input_shapes s)) text refusal
+
 abbrev pub IsNoEncryptionMaterialOf : Source → List ℕ → Refusal → Type 0
-IsNoEncryptionMaterialOf s text refusal = IsEncryptionsRefusal 4 (source_preset s) (length (input_shapes s)) text refusal
+IsNoEncryptionMaterialOf s text refusal = IsNoEncryptionMaterialIn 4 s text refusal
 
 -- ---- what is given
 

@@ -8,7 +8,7 @@ ghost use Rattle.heco_syntax.specs.declared.tree.Source.{Source};
 ghost use Rattle.heco_jobs.specs.Stages.{IsThingRead, seen};
 ghost use Rattle.heco_jobs.specs.Words.{texts};
 ghost use Rattle.heco_exec.specs.Chain.{AreKeysFor};
-ghost use Rattle.heco_exec.specs.ExecTask.{IsKeyMaterialOf, IsNoKeyMaterialOf};
+ghost use Rattle.heco_exec.specs.ExecTask.{IsKeyMaterialOf, IsNoKeyMaterialIn};
 
 use heco_circuit::{Circuit, needs};
 use heco_jobs::Outcome;
@@ -20,19 +20,20 @@ use heco_reads::read_material;
 use heco_tasks::preset_of;
 use std::alloc::Global;
 
-/// The key material for the circuit's needs that the third word holds. For a good circuit these are the needs of the
-/// source's written form.
+/// The key material for the circuit's needs that this word holds. For a good circuit these are the needs of the source's
+/// written form.
 pub fn read_key_words<S: Store>(
     alloc: Global,
     circuit: &Circuit,
     words: &[String],
+    which: u8,
     store: &mut S,
 ) -> Result<KeyWords, Outcome>
     ensures kept { IfOk result (AreKeysFor circuit.now) }
-    ensures read { (s : Source) → Good s circuit.now → IsThingRead S.Store (texts words.now) 3 (IsKeyMaterialOf s) (IsNoKeyMaterialOf s) store.old store.new (seen lists_of result) }
+    ensures read { (s : Source) → Good s circuit.now → IsThingRead S.Store (texts words.now) which (IsKeyMaterialOf s) (IsNoKeyMaterialIn which s) store.old store.new (seen lists_of result) }
 {
     let needs = needs(alloc, circuit)?;
-    let k = read_material(alloc, preset_of(circuit), &needs, words, 3, store)?;
+    let k = read_material(alloc, preset_of(circuit), &needs, words, which, store)?;
     Ok(k)
 }
 

@@ -2,9 +2,11 @@
 #![tactic(auto)]
 
 mod chain;
+mod files;
 mod keys;
 mod laws;
 
 pub use chain::chain_product;
+pub use files::run_files;
 pub use keys::{made_keys, read_key_words};
 pub use laws::{done_is_executed, given_is_ready};
