@@ -27,7 +27,8 @@ unfoldable pub pair_files : Circuit → KeyLists → List EncRow → List (List 
 pair_files c k material first second =
     let p = preset_of c.preset in
     let key = circuit_key p c k in
-    circuit_text c ∷ secret_file p k ∷ evaluation_file p c k ∷ pairs_file p key material first second ∷ results_file p c key (encrypted_pairs p key material first second) ∷ []
+    circuit_text c ∷ secret_file p k ∷ evaluation_file p c k ∷ pairs_file p key material first second
+    ∷ results_file p c key (encrypted_pairs p key material first second) ∷ []
 
 -- the keys are made, the inputs encrypted in two rows, and the circuit run
 abbrev pub pair_result : Circuit → KeyLists → List EncRow → List (List ℕ) → List (List ℕ) → List Ciphertext
@@ -55,7 +56,8 @@ abbrev pub PairPrintsBothPlainTexts : Type 0
 PairPrintsBothPlainTexts =
     (source : Source) (c : Circuit) (text other : List ℕ) (v w : Values) (k : KeyLists) (material : List EncRow)
     → Good source c → IsInput source text v → IsInput source other w → IsMaterialFor source k material
-    → CanRunBoth c k material v.rows w.rows × IsPlainText source v.rows (first_text c k material v.rows w.rows) × IsPlainText source w.rows (second_text c k material v.rows w.rows)
+    → CanRunBoth c k material v.rows w.rows
+    × IsPlainText source v.rows (first_text c k material v.rows w.rows) × IsPlainText source w.rows (second_text c k material v.rows w.rows)
 
 -- so what is printed of one row is the same for every content of the other, whatever good circuits are chosen and whatever the material is
 abbrev pub RowsPrintApart : Type 0

@@ -2,5 +2,7 @@
 #![tactic(auto)]
 
 mod decryption;
+mod encryption;
 
 pub use decryption::decrypt_two;
+pub use encryption::encrypt_two;
