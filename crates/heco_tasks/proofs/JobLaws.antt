@@ -16,6 +16,7 @@ use Rattle.heco_reads.proofs.CircuitLaws.{spells_once}
 use Rattle.heco_reads.proofs.KeyFileLaws.{evaluation_alone, secret_alone}
 use Rattle.heco_reads.proofs.MaterialLaws.{keys_alone, encryptions_alone}
 use Rattle.heco_tasks.specs.CircuitTasks.{show_plan, draw_plan, keys_plan, encrypt_plan, run_plan, decrypt_plan, show_job, draw_job, keys_job, encrypt_job, run_job, decrypt_job, shown_job, drawn_job, material_job, evaluation_job, encryptions_job, inputs_job, run_key_job, served_job, ciphertexts_job, secret_job, result_job}
+use Rattle.heco_tasks.specs.MeasureTask.{measure_plan, measure_job, measured_secret_job, measured_key_job, measured_served_job, noise_job}
 use Rattle.heco_tasks.specs.SourceTasks.{plain_plan, plain_job, values_job, outputs_job, compile_plan, compile_job, accepted_job}
 
 abbrev values_of : List (List ℕ) → Values
@@ -104,3 +105,13 @@ module _ (agents : Agents) where
   pub tells_decrypt : Tells (decrypt_job agents)
   unfolding Tells decrypt_job secret_job result_job
   tells_decrypt = (spells_once, λ c. let p = preset_of c.preset in (secret_alone p, λ s. (ciphertexts_alone Res p (output_wire_count c), λ cs. tt)))
+
+  -- ---- measure
+
+  pub plans_measure : Plans (measure_job agents) measure_plan.reads measure_plan
+  unfolding Plans measure_job measured_secret_job measured_key_job measured_served_job noise_job
+  plans_measure = (refl, (λ c. (refl, (λ s. (refl, (λ key u. (refl, (λ inputs p left h. fits_print measure_plan _ p refl refl h.0))))))))
+
+  pub tells_measure : Tells (measure_job agents)
+  unfolding Tells measure_job measured_secret_job measured_key_job measured_served_job noise_job
+  tells_measure = (spells_once, λ c. let p = preset_of c.preset in (secret_alone p, λ s. (evaluation_alone p, λ key. ((λ x y h k. refl), λ u. (ciphertexts_alone Cts p (length c.inputs), λ inputs. tt)))))

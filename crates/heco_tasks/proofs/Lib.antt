@@ -4,3 +4,4 @@ pub mod KeyLaws
 pub mod JobLaws
 pub mod RunLaws
 pub mod MadeFileLaws
+pub mod MeasuredFileLaws
