@@ -17,10 +17,11 @@ use Rattle.heco_jobs.specs.declared.outcome.Outcome.{Outcome}
 use Rattle.heco_jobs.specs.declared.outcome.Outcome.TheVariants.{Ok as Fine, Refused}
 use Rattle.heco_jobs.specs.declared.outcome.Refusal.TheVariants.{Usage}
 use Rattle.heco_exec.specs.Laws.{PrintsExecuted}
+use Rattle.heco_pair.specs.Laws.{PrintsPaired}
 use Rattle.heco_tasks.specs.Executions.{AreOutputs}
 use Rattle.heco_top.specs.Commands.{command_of, plan_of, job_of, asks}
 use Rattle.heco_top.specs.declared.command.Command.{Command}
-use Rattle.heco_top.specs.declared.command.Command.TheVariants.{Plain, Exec}
+use Rattle.heco_top.specs.declared.command.Command.TheVariants.{Plain, Exec, Pair}
 
 -- ---- over whatever outside
 
@@ -116,3 +117,11 @@ module _ (words : List (List ℕ)) where
   -- after Ok of `exec` the files are as the headline says, and standard output grew by the text of which it speaks
   abbrev pub PrintsExec : Outside → Outside → Outcome → Type 0
   PrintsExec old new outcome = ExecutedFor (command_of words) old new outcome
+
+  abbrev pub PairedFor : Option Command → Outside → Outside → Outcome → Type 0
+  PairedFor (Some Pair) old new Fine = PrintsPaired words old new
+  PairedFor command old new outcome = Unit {0}
+
+  -- after Ok of `pair` the same of two rows of values, with a text for each
+  abbrev pub PrintsPair : Outside → Outside → Outcome → Type 0
+  PrintsPair old new outcome = PairedFor (command_of words) old new outcome

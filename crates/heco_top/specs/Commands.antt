@@ -7,11 +7,12 @@ use Rattle.heco_jobs.specs.Jobs.{Job}
 use Rattle.heco_jobs.specs.Plans.{Plan}
 use Rattle.heco_jobs.specs.Words.{are_distinct}
 use Rattle.heco_exec.specs.ExecTask.{exec_plan, exec_job}
+use Rattle.heco_pair.specs.PairTask.{pair_plan, pair_job}
 use Rattle.heco_sample.specs.SampleTask.{sample_plan, sample_job}
 use Rattle.heco_tasks.specs.CircuitTasks.{show_plan, draw_plan, keys_plan, encrypt_plan, run_plan, decrypt_plan, show_job, draw_job, keys_job, encrypt_job, run_job, decrypt_job}
 use Rattle.heco_tasks.specs.SourceTasks.{plain_plan, plain_job, compile_plan, compile_job}
 use Rattle.heco_top.specs.declared.command.Command.{Command}
-use Rattle.heco_top.specs.declared.command.Command.TheVariants.{Plain, Compile, Show, Draw, Keys, Encrypt, Run, Decrypt, Exec, Sample}
+use Rattle.heco_top.specs.declared.command.Command.TheVariants.{Plain, Compile, Show, Draw, Keys, Encrypt, Run, Decrypt, Exec, Pair, Sample}
 use Rattle.heco_top.specs.Seeds.{seed_of}
 
 -- ---- the rows of words
@@ -65,6 +66,12 @@ exec_of (source ∷ inputs ∷ keys ∷ material ∷ circuit ∷ secret ∷ eval
     where_distinct (source ∷ inputs ∷ keys ∷ material ∷ circuit ∷ secret ∷ evaluation ∷ ciphertexts ∷ results ∷ []) (Some Exec)
 exec_of words = None
 
+-- pair SRC IN IN2 KMAT EMAT CIR SEC EVA CTS RES
+abbrev pub pair_of : List (List ℕ) → Option Command
+pair_of (source ∷ inputs ∷ second ∷ keys ∷ material ∷ circuit ∷ secret ∷ evaluation ∷ ciphertexts ∷ results ∷ []) =
+    where_distinct (source ∷ inputs ∷ second ∷ keys ∷ material ∷ circuit ∷ secret ∷ evaluation ∷ ciphertexts ∷ results ∷ []) (Some Pair)
+pair_of words = None
+
 -- sample SEED, where the seed is no file word
 abbrev pub sample_of : List (List ℕ) → Option Command
 sample_of (seed ∷ []) = option_map (λ n. Sample n) (seed_of seed)
@@ -81,6 +88,7 @@ command_of (c ∷ rest) =
     if bytes_eq c (codes "run") then run_of rest else
     if bytes_eq c (codes "decrypt") then decrypt_of rest else
     if bytes_eq c (codes "exec") then exec_of rest else
+    if bytes_eq c (codes "pair") then pair_of rest else
     if bytes_eq c (codes "sample") then sample_of rest else None
 command_of [] = None
 
@@ -96,6 +104,7 @@ plan_of Encrypt = encrypt_plan
 plan_of Run = run_plan
 plan_of Decrypt = decrypt_plan
 plan_of Exec = exec_plan
+plan_of Pair = pair_plan
 plan_of (Sample seed) = sample_plan
 
 -- whether it asks the picker
@@ -109,6 +118,7 @@ asks Encrypt = false
 asks Run = true
 asks Decrypt = false
 asks Exec = true
+asks Pair = true
 asks (Sample seed) = true
 
 abbrev pub job_of : Agents → Command → Job
@@ -121,4 +131,5 @@ job_of agents Encrypt = encrypt_job agents
 job_of agents Run = run_job agents
 job_of agents Decrypt = decrypt_job agents
 job_of agents Exec = exec_job agents
+job_of agents Pair = pair_job agents
 job_of agents (Sample seed) = sample_job agents seed

@@ -2,7 +2,7 @@ ghost use Rattle.std.specs.Prelude.{◌≡◌};
 ghost use Rattle.std.specs.List.{list_any};
 ghost use Rattle.std.specs.Str.{bytes_eq};
 ghost use Rattle.heco_jobs.specs.Words.{texts, are_distinct};
-ghost use Rattle.heco_top.specs.Commands.{command_of, plain_of, compile_of, show_of, draw_of, keys_of, encrypt_of, run_of, decrypt_of, exec_of, sample_of};
+ghost use Rattle.heco_top.specs.Commands.{command_of, plain_of, compile_of, show_of, draw_of, keys_of, encrypt_of, run_of, decrypt_of, exec_of, pair_of, sample_of};
 
 use crate::seed::seed_of;
 
@@ -18,6 +18,7 @@ pub enum Command {
     Run,
     Decrypt,
     Exec,
+    Pair,
     Sample { seed: u64 },
 }
 
@@ -169,6 +170,20 @@ fn exec_of(words: &[String]) -> Option<Command>
     }
 }
 
+// pair SRC IN IN2 KMAT EMAT CIR SEC EVA CTS RES
+fn pair_of(words: &[String]) -> Option<Command>
+    ensures { result ≡ pair_of (texts words.now) }
+{
+    let [_, _, _, _, _, _, _, _, _, _] = words else {
+        return None;
+    };
+    if are_distinct(words) {
+        Some(Command::Pair)
+    } else {
+        None
+    }
+}
+
 // sample SEED
 fn sample_of(words: &[String]) -> Option<Command>
     ensures { result ≡ sample_of (texts words.now) }
@@ -214,6 +229,9 @@ pub fn command_of(words: &[String]) -> Option<Command>
     }
     if command == "exec" {
         return exec_of(rest);
+    }
+    if command == "pair" {
+        return pair_of(rest);
     }
     if command == "sample" {
         return sample_of(rest);

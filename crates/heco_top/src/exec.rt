@@ -62,7 +62,7 @@ fn gather_keys<S: Store>(
     ensures rule { rule picker.new ≡ rule picker.old }
     ensures left { IfErr result (λ outcome. IsLeft outcome picker.old picker.new) }
 {
-    let k = read_key_words(alloc, circuit, words, store)?;
+    let k = read_key_words(alloc, circuit, words, 3, store)?;
     gather_encryptions(alloc, circuit, values, &k, words, store, picker)
 }
 

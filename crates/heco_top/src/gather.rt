@@ -7,6 +7,7 @@ ghost use Rattle.heco_top.specs.Commands.{plan_of, job_of, asks};
 
 use crate::command::Command;
 use crate::exec::gather_exec;
+use crate::pair::gather_pair;
 use crate::run::gather_run;
 use crate::sample::gather_sample;
 use heco_jobs::{Outcome, Product};
@@ -42,6 +43,7 @@ pub fn gather<S: Store>(
         Command::Run => gather_run(alloc, words, store, picker),
         Command::Decrypt => gather_decrypt(alloc, words, store),
         Command::Exec => gather_exec(alloc, words, store, picker),
+        Command::Pair => gather_pair(alloc, words, store, picker),
         Command::Sample { seed } => gather_sample(alloc, seed, words, store, picker),
     }
 }

@@ -4,6 +4,7 @@
 mod command;
 mod exec;
 mod gather;
+mod pair;
 mod run;
 mod sample;
 mod seed;

@@ -7,7 +7,7 @@ ghost use Rattle.heco_jobs.specs.Lines.{line_of, Reports};
 ghost use Rattle.heco_jobs.specs.Outsides.{outside};
 ghost use Rattle.heco_jobs.specs.Plans.{IsCause};
 ghost use Rattle.heco_jobs.specs.Words.{texts};
-ghost use Rattle.heco_top.specs.Answers.{HasCause, Untouched, PickerLeft, Ends, FollowsPlan, DoneIfOk, PrintsPlain, PrintsExec, IsClearIn, IsReadyIn};
+ghost use Rattle.heco_top.specs.Answers.{HasCause, Untouched, PickerLeft, Ends, FollowsPlan, DoneIfOk, PrintsPlain, PrintsExec, PrintsPair, IsClearIn, IsReadyIn};
 ghost use Rattle.heco_top.specs.Commands.{command_of, plan_of, job_of, asks};
 
 use crate::command::{Command, command_of};
@@ -109,6 +109,11 @@ pub fn heco<S: Store, O: Sink, E: Sink>(
     // circuit of the source, and SEC, EVA, CTS and RES are by the written formulas over CIR, KMAT, EMAT and IN; every other file stands; and standard output
     // grew by exactly what decrypting RES with SEC over CIR prints, which is the text of the source's execution on these values
     ensures headline { IsTrue S.tells → IsTrue O.tells → PrintsExec (texts words.now) (outside S.Store O.Sink store.old out.old) (outside S.Store O.Sink store.new out.new) result }
+
+    // THE HEADLINE IN TWO ROWS. Where `pair` is done: the same of SRC, KMAT, EMAT, CIR, SEC and EVA; IN and IN2 were each values of its inputs; CTS encrypts
+    // those of IN in the first row and those of IN2 in the second, and RES is by the written formulas; every other file stands; and standard output grew by
+    // what decrypting RES prints of the first row, which is the text of the source's execution on IN, the line `--`, and the same of the second row and IN2
+    ensures pair { IsTrue S.tells → IsTrue O.tells → PrintsPair (texts words.now) (outside S.Store O.Sink store.old out.old) (outside S.Store O.Sink store.new out.new) result }
 
     // after Ok nothing went to `err`
     ensures silent { IsTrue E.tells → result ≡ Outcome.Ok → E.taken err.new ≡ E.taken err.old }

@@ -26,7 +26,7 @@ returns-in_err-material-clause-gathered g c = λ s good.
     rw (p.1, p.2) (gathered_stopped g.S.Store (texts c.args.words.now) exec_plan 4 (IsEncryptionMaterialOf s) (IsNoEncryptionMaterialOf s)
     (λ material. Give (Executes _ s c.args.values.now (lists_of c.args.k.now) material)) _
     c.args.store.now c.read_encryptions.new.store o (inr (inr (inr (inl refl))))
-    (encryptions_judged g.S.Store (texts c.args.words.now) s c.args.circuit.now good c.preset_of-preset.result.now c.args.store.now c.read_encryptions.new.store c.input_count.result (Err o)
+    (encryptions_judged g.S.Store (texts c.args.words.now) s c.args.circuit.now good c.preset_of-preset.result.now c.args.store.now c.read_encryptions.new.store 4 c.input_count.result (Err o)
     c.preset_of-preset.ensures.whole c.input_count.ensures c.in_err-material.ensures.read))
 
 pub returns-in_err-product-clause-gathered : goal.returns-in_err-product-clause-gathered
@@ -37,7 +37,7 @@ returns-in_err-product-clause-gathered g c = λ s good.
     rw (p.1, p.2) (gathered_on g.S.Store (texts c.args.words.now) exec_plan 4 (IsEncryptionMaterialOf s) (IsNoEncryptionMaterialOf s)
     (λ material. Give (Executes _ s c.args.values.now (lists_of c.args.k.now) material)) _
     c.args.store.now c.read_encryptions.new.store c.read_encryptions.new.store rows _
-    (encryptions_judged g.S.Store (texts c.args.words.now) s c.args.circuit.now good c.preset_of-preset.result.now c.args.store.now c.read_encryptions.new.store c.input_count.result (Ok rows)
+    (encryptions_judged g.S.Store (texts c.args.words.now) s c.args.circuit.now good c.preset_of-preset.result.now c.args.store.now c.read_encryptions.new.store 4 c.input_count.result (Ok rows)
     c.preset_of-preset.ensures.whole c.input_count.ensures c.in_ok-material.ensures.read)
     (gathered_decided g.S.Store (texts c.args.words.now) exec_plan _ _ c.read_encryptions.new.store _ (given_none exec_plan _ _)))
 
@@ -51,7 +51,7 @@ returns-clause-gathered g c = λ s good.
     gathered_on g.S.Store (texts c.args.words.now) exec_plan 4 (IsEncryptionMaterialOf s) (IsNoEncryptionMaterialOf s)
     (λ material. Give (Executes _ s v k material)) _
     c.args.store.now c.read_encryptions.new.store c.read_encryptions.new.store rows (Ok product)
-    (encryptions_judged g.S.Store (texts c.args.words.now) s c.args.circuit.now good c.preset_of-preset.result.now c.args.store.now c.read_encryptions.new.store c.input_count.result (Ok rows)
+    (encryptions_judged g.S.Store (texts c.args.words.now) s c.args.circuit.now good c.preset_of-preset.result.now c.args.store.now c.read_encryptions.new.store 4 c.input_count.result (Ok rows)
     c.preset_of-preset.ensures.whole c.input_count.ensures c.in_ok-material.ensures.read)
     (gathered_decided g.S.Store (texts c.args.words.now) exec_plan _ _ c.read_encryptions.new.store (Ok product)
     (given exec_plan (Executes _ s v k rows) _ (Ok product) (λ p h. fits_exec h.circuit k rows v.rows p h.yields)

@@ -2,7 +2,7 @@ use Rattle.std.proofs.Common.{refl, inl, inr, subst, Ok, Err}
 use Rattle.std.proofs.lemmas.Result.{err_from_is_err_and}
 use Rattle.heco_jobs.proofs.StageLaws.{gathered_on, gathered_stopped}
 use Rattle.heco_jobs.specs.Words.{texts}
-use Rattle.heco_reads.specs.SourceFiles.{IsValuesRefusal}
+use Rattle.heco_reads.specs.SourceFiles.{IsTextRefusal, IsValuesRefusal}
 use Rattle.heco_sources.specs.Inputs.{IsInput}
 use Rattle.heco_texts.specs.Answers.{HaveFit}
 use Rattle.heco_exec.proofs.KeyLaws.{inputs_judged}
@@ -22,7 +22,7 @@ returns-in_err-values-clause-gathered g c = λ s good.
     let p = err_from_is_err_and c.from_residual.result c.from_residual.ensures.1 in
     rw (p.1, p.2) (gathered_stopped g.S.Store (texts c.args.words.now) exec_plan 2 (IsInput s) (IsValuesRefusal s) (keys_job _ s) _
     c.args.store.now c.read_inputs.new.store o (inr (inl refl))
-    (inputs_judged g.S.Store (texts c.args.words.now) s c.args.circuit.now good c.preset_of-preset.result.now c.args.store.now c.read_inputs.new.store c.inputs_of.result.now (Err o)
+    (inputs_judged g.S.Store (texts c.args.words.now) s c.args.circuit.now good c.preset_of-preset.result.now c.args.store.now c.read_inputs.new.store 2 IsTextRefusal c.inputs_of.result.now (Err o)
     c.preset_of-preset.ensures.number c.inputs_of.ensures.inputs c.in_err-values.ensures.read))
 
 pub returns-clause-gathered : goal.returns-clause-gathered
@@ -31,6 +31,6 @@ returns-clause-gathered g c = λ s good.
     let v = c.in_ok-values.values in
     gathered_on g.S.Store (texts c.args.words.now) exec_plan 2 (IsInput s) (IsValuesRefusal s) (keys_job _ s) _
     c.args.store.now c.read_inputs.new.store c.gather_keys.new.store v c.gather_keys.result
-    (inputs_judged g.S.Store (texts c.args.words.now) s c.args.circuit.now good c.preset_of-preset.result.now c.args.store.now c.read_inputs.new.store c.inputs_of.result.now (Ok v)
+    (inputs_judged g.S.Store (texts c.args.words.now) s c.args.circuit.now good c.preset_of-preset.result.now c.args.store.now c.read_inputs.new.store 2 IsTextRefusal c.inputs_of.result.now (Ok v)
     c.preset_of-preset.ensures.number c.inputs_of.ensures.inputs c.in_ok-values.ensures.read)
     (c.gather_keys.ensures.gathered s good)

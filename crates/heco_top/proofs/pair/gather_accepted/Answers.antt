@@ -1,0 +1,23 @@
+use Rattle.std.proofs.Common.{Err}
+use Rattle.std.proofs.lemmas.Result.{err_from_is_err_and}
+use Rattle.heco_good.specs.Accepted.{IsAccepted}
+use Rattle.heco_jobs.proofs.StageLaws.{gathered_decided, gathered_judged, decided_off}
+use Rattle.heco_jobs.specs.Words.{texts}
+use Rattle.heco_tasks.specs.Executions.{IsCompileRefusal}
+use Rattle.heco_pair.specs.PairTask.{pair_plan, accepted_job, first_job}
+use Rattle.heco_top.proofs.pair.gather_accepted.Goals as goal
+
+pub returns-in_err-circuit-clause-gathered : goal.returns-in_err-circuit-clause-gathered
+unfolding accepted_job
+returns-in_err-circuit-clause-gathered g c =
+    let s = c.args.typed.now in
+    let p = err_from_is_err_and c.from_residual.result c.from_residual.ensures.1 in
+    rw (p.1, p.2) (gathered_decided g.S.Store (texts c.args.words.now) pair_plan (accepted_job _ s) _ c.args.store.now (Err c.in_err-circuit.field-0.0)
+    (decided_off pair_plan {Thing = Unit {0}} (λ _. IsAccepted s) (IsCompileRefusal s) (λ _. first_job _ s) _ c.in_err-circuit.field-0.0 (λ h. h) c.in_err-circuit.ensures.settled))
+
+pub returns-clause-gathered : goal.returns-clause-gathered
+unfolding accepted_job
+returns-clause-gathered g c =
+    let s = c.args.typed.now in
+    gathered_judged g.S.Store (texts c.args.words.now) pair_plan {Thing = Unit {0}} (λ _. IsAccepted s) (IsCompileRefusal s) (λ _. first_job _ s) _
+    c.args.store.now c.gather_first.new.store tt c.gather_first.result c.in_ok-circuit.ensures.settled (c.gather_first.ensures.gathered s c.in_ok-circuit.ensures.good)

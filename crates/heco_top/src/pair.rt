@@ -1,0 +1,143 @@
+ghost use Rattle.std.specs.Prelude.{◌≡◌, IfErr};
+ghost use Rattle.heco_good.specs.Good.{Good};
+ghost use Rattle.heco_material.specs.KeyLists.{lists_of};
+ghost use Rattle.heco_products.specs.PresetRows.{preset_of};
+ghost use Rattle.heco_syntax.specs.declared.tree.Source.{Source};
+ghost use Rattle.heco_texts.specs.Answers.{HaveFit};
+ghost use Rattle.heco_jobs.specs.Agents.{agents};
+ghost use Rattle.heco_jobs.specs.Laws.{IsLeft};
+ghost use Rattle.heco_jobs.specs.Stages.{IsGathered};
+ghost use Rattle.heco_jobs.specs.Words.{texts};
+ghost use Rattle.heco_exec.specs.Chain.{AreKeysFor};
+ghost use Rattle.heco_pair.specs.PairTask.{pair_plan, pair_job, accepted_job, first_job, second_job, keys_job, encryptions_job};
+
+use heco_circuit::Circuit;
+use heco_exec::read_key_words;
+use heco_jobs::{Outcome, Product};
+use heco_material::KeyWords;
+use heco_nums::Inputs;
+use heco_outside::Store;
+use heco_pair::pair_product;
+use heco_reads::{read_encryptions, read_inputs, read_second_inputs, read_source};
+use heco_sched::Picker;
+use heco_tasks::{compiled, input_count, inputs_of, preset_of};
+use heco_types::Typed;
+use std::alloc::Global;
+
+// All behind the key material, whatever source the circuit is good for.
+fn gather_encryptions<S: Store>(
+    alloc: Global,
+    circuit: &Circuit,
+    first: &Inputs,
+    second: &Inputs,
+    k: &KeyWords,
+    words: &[String],
+    store: &mut S,
+    picker: &mut Box<dyn Picker>,
+) -> Result<Product, Outcome>
+    requires first { HaveFit (preset_of circuit.now.preset).t circuit.now.inputs first.now.rows }
+    requires second { HaveFit (preset_of circuit.now.preset).t circuit.now.inputs second.now.rows }
+    requires keys { AreKeysFor circuit.now k.now }
+    ensures gathered { (s : Source) → Good s circuit.now → IsGathered S.Store (texts words.now) pair_plan
+        (encryptions_job (agents (rule picker.old) (state picker.old)) s first.now second.now (lists_of k.now)) (agents (rule picker.new) (state picker.new)) store.old store.new result }
+    ensures rule { rule picker.new ≡ rule picker.old }
+    ensures left { IfErr result (λ outcome. IsLeft outcome picker.old picker.new) }
+{
+    let _ = circuit.preset();
+    let preset = preset_of(circuit);
+    let material = read_encryptions(alloc, preset, input_count(circuit), words, 5, store)?;
+    let product = pair_product(alloc, circuit, k, &material, first, second, picker)?;
+    Ok(product)
+}
+
+// All behind both texts of inputs.
+fn gather_keys<S: Store>(
+    alloc: Global,
+    circuit: &Circuit,
+    first: &Inputs,
+    second: &Inputs,
+    words: &[String],
+    store: &mut S,
+    picker: &mut Box<dyn Picker>,
+) -> Result<Product, Outcome>
+    requires first { HaveFit (preset_of circuit.now.preset).t circuit.now.inputs first.now.rows }
+    requires second { HaveFit (preset_of circuit.now.preset).t circuit.now.inputs second.now.rows }
+    ensures gathered { (s : Source) → Good s circuit.now → IsGathered S.Store (texts words.now) pair_plan
+        (keys_job (agents (rule picker.old) (state picker.old)) s first.now second.now) (agents (rule picker.new) (state picker.new)) store.old store.new result }
+    ensures rule { rule picker.new ≡ rule picker.old }
+    ensures left { IfErr result (λ outcome. IsLeft outcome picker.old picker.new) }
+{
+    let k = read_key_words(alloc, circuit, words, 4, store)?;
+    gather_encryptions(alloc, circuit, first, second, &k, words, store, picker)
+}
+
+// All behind the first text of inputs.
+fn gather_second<S: Store>(
+    alloc: Global,
+    circuit: &Circuit,
+    first: &Inputs,
+    words: &[String],
+    store: &mut S,
+    picker: &mut Box<dyn Picker>,
+) -> Result<Product, Outcome>
+    requires { HaveFit (preset_of circuit.now.preset).t circuit.now.inputs first.now.rows }
+    ensures gathered { (s : Source) → Good s circuit.now → IsGathered S.Store (texts words.now) pair_plan
+        (second_job (agents (rule picker.old) (state picker.old)) s first.now) (agents (rule picker.new) (state picker.new)) store.old store.new result }
+    ensures rule { rule picker.new ≡ rule picker.old }
+    ensures left { IfErr result (λ outcome. IsLeft outcome picker.old picker.new) }
+{
+    let preset = preset_of(circuit);
+    let second = read_second_inputs(alloc, preset, inputs_of(circuit), words, 3, store)?;
+    gather_keys(alloc, circuit, first, &second, words, store, picker)
+}
+
+// All behind the source.
+fn gather_first<S: Store>(
+    alloc: Global,
+    circuit: &Circuit,
+    words: &[String],
+    store: &mut S,
+    picker: &mut Box<dyn Picker>,
+) -> Result<Product, Outcome>
+    ensures gathered { (s : Source) → Good s circuit.now → IsGathered S.Store (texts words.now) pair_plan
+        (first_job (agents (rule picker.old) (state picker.old)) s) (agents (rule picker.new) (state picker.new)) store.old store.new result }
+    ensures rule { rule picker.new ≡ rule picker.old }
+    ensures left { IfErr result (λ outcome. IsLeft outcome picker.old picker.new) }
+{
+    let preset = preset_of(circuit);
+    let first = read_inputs(alloc, preset, inputs_of(circuit), words, 2, store)?;
+    gather_second(alloc, circuit, &first, words, store, picker)
+}
+
+// All behind the reading of the source, which is judged wholly before anything else is read.
+fn gather_accepted<S: Store>(
+    alloc: Global,
+    typed: &Typed,
+    words: &[String],
+    store: &mut S,
+    picker: &mut Box<dyn Picker>,
+) -> Result<Product, Outcome>
+    ensures gathered { IsGathered S.Store (texts words.now) pair_plan
+        (accepted_job (agents (rule picker.old) (state picker.old)) typed.now) (agents (rule picker.new) (state picker.new)) store.old store.new result }
+    ensures rule { rule picker.new ≡ rule picker.old }
+    ensures left { IfErr result (λ outcome. IsLeft outcome picker.old picker.new) }
+{
+    let circuit = compiled(alloc, typed)?;
+    gather_first(alloc, &circuit, words, store, picker)
+}
+
+/// All that `pair` gives, or why it ends before.
+pub fn gather_pair<S: Store>(
+    alloc: Global,
+    words: &[String],
+    store: &mut S,
+    picker: &mut Box<dyn Picker>,
+) -> Result<Product, Outcome>
+    ensures gathered { IsGathered S.Store (texts words.now) pair_plan
+        (pair_job (agents (rule picker.old) (state picker.old))) (agents (rule picker.new) (state picker.new)) store.old store.new result }
+    ensures rule { rule picker.new ≡ rule picker.old }
+    ensures left { IfErr result (λ outcome. IsLeft outcome picker.old picker.new) }
+{
+    let typed = read_source(alloc, words, 1, store)?;
+    gather_accepted(alloc, &typed, words, store, picker)
+}
