@@ -3,12 +3,14 @@
 
 mod bench;
 mod counted;
+mod faulty;
 mod files;
 mod pickers;
 mod row;
 mod text;
 
 pub use bench::Bench;
+pub use faulty::Faulty;
 pub use files::words_of;
 pub use row::row_holds;
 pub use text::text_of;
