@@ -24,6 +24,10 @@ added e f = e + f
 abbrev pub scaled_by : ℕ → ℕ → ℕ → ℕ
 scaled_by t c e = unsigned_abs (centre_t t c) * e
 
+-- of the product by a plain polynomial whose coefficients' sizes come to s
+abbrev pub weighed : ℕ → ℕ → ℕ
+weighed s e = s * e
+
 -- of a wire to which a constant is added
 abbrev pub shifted : ℕ → ℕ → ℕ
 shifted t e = e + (t - 1) / 2

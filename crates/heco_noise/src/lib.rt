@@ -3,7 +3,7 @@
 //! A bound is in units of which the ciphertext modulus q = 2^58 has q, over a value t*z - q*m for the message m.
 #![tactic(auto)]
 
-ghost use Rattle.std.specs.Prelude.{◌≡◌, ◌<◌};
+ghost use Rattle.std.specs.Prelude.{◌≡◌, ◌<◌, ◌^◌};
 ghost use Rattle.heco_noise.specs.Rows.{IsQuiet};
 ghost use Rattle.heco_noise.specs.Rows as rows;
 
@@ -41,6 +41,15 @@ pub fn scaled_by(p: &Preset, c: u32, e: u128) -> u128
     ensures { result ≡ rows.scaled_by p.now.t c e }
 {
     u128::from(centre_t(p, c).unsigned_abs()) * e
+}
+
+/// A product by a plain polynomial: `s*e`, s being the sum of the sizes of its coefficients.
+pub fn weighed(s: u64, e: u128) -> u128
+    requires s { s < 2 ^ 26 }
+    requires e { IsQuiet e }
+    ensures { result ≡ rows.weighed s e }
+{
+    u128::from(s) * e
 }
 
 /// A constant added: `e + (t-1)/2`.

@@ -23,6 +23,7 @@ fn the_table_of_bounds(rt: HostRuntime) -> Result<(), Fail> {
     assert_eq!(rt; multiplied(&p8, 4754, 4754), 97975829);
     assert_eq!(rt; scaled_by(&p8, 200, 10), 570);
     assert_eq!(rt; shifted(&p8, 10), 138);
+    assert_eq!(rt; weighed(1015, 4754), 4825310);
     assert!(rt; passes(1 << 57));
     assert!(rt; !passes((1 << 57) - 1));
     Ok(())

@@ -7,3 +7,4 @@ pub mod Rounding
 pub mod Switch
 pub mod SwitchNoise
 pub mod TurnSizes
+pub mod Weighing

@@ -29,6 +29,12 @@ pub fn noise_of_a_multiple()
     ensures { (n q t E : ℕ) (c : ℤ) (z m : List ℤ) → 0 < q * t → NoiseAtMost n q t z m E → NoiseAtMost n q t (scale n c z) (scale n c m) (nat_abs c * E) }
 {}
 
+/// The product by a plain polynomial w has as many times the noise as the sizes of w's coefficients come to.
+#[tactic(auto, using(crate::proofs::Weighing::noise_weigh))]
+pub fn noise_of_a_plain_product()
+    ensures { (n q t E : ℕ) (w z m : List ℤ) → 0 < q * t → NoiseAtMost n q t z m E → NoiseAtMost n q t (times n w z) (times n w m) (weight n w * E) }
+{}
+
 /// A turn by a g that has an inverse modulo 2n keeps the noise.
 #[tactic(auto, using(crate::proofs::Gates::noise_turn))]
 pub fn noise_of_a_turn()

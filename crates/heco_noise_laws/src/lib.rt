@@ -4,6 +4,6 @@
 mod laws;
 
 pub use laws::{
-    noise_goes_by_remainders, noise_of_a_multiple, noise_of_a_negative, noise_of_a_product,
-    noise_of_a_sum, noise_of_a_turn, small_noise_decrypts,
+    noise_goes_by_remainders, noise_of_a_multiple, noise_of_a_negative, noise_of_a_plain_product,
+    noise_of_a_product, noise_of_a_sum, noise_of_a_turn, small_noise_decrypts,
 };

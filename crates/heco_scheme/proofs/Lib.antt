@@ -5,3 +5,4 @@ pub mod NoiseLaws
 pub mod PartLaws
 pub mod ProductNoise
 pub mod SwitchedNoise
+pub mod WeighedNoise

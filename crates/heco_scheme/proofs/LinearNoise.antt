@@ -33,7 +33,7 @@ use Rattle.heco_scheme.proofs.PartLaws.{length-parts, part-parts, part_past, sam
 use Rattle.heco_scheme.proofs.NoiseLaws.{at_most, noise_of, modulus_pos}
 use Rattle.heco_scheme.proofs.Empty.{Zeros, empty_zeros, plus_zeros, negate_zeros, scale_zeros, same_zeros, phase_one}
 
-part_zeros : (n : ℕ) (c : List (List ℕ)) (i : ℕ) → length c ≤ i → Zeros n (part c i)
+pub part_zeros : (n : ℕ) (c : List (List ℕ)) (i : ℕ) → length c ≤ i → Zeros n (part c i)
 part_zeros n c i h = rw (part_past c i h) (empty_zeros n)
 
 part_each : (p : Preset) (m i : ℕ) (f : ℕ → List ℤ) → ((i : ℕ) → m ≤ i → Zeros p.n (f i)) → Same q p.n (part (parts m (λ i. reduced q p.n (f i))) i) (f i)
@@ -42,7 +42,7 @@ part_each p m i f h = elim (cases_lt i m) [
   | inr g ↦ rw (part_past (parts m (λ i. reduced q p.n (f i))) i (omega (arith, length-parts m (λ i. reduced q p.n (f i))))) (same_zeros q p.n [] (f i) (empty_zeros p.n) (h i g))
 ]
 
-phase_each : (p : Preset) (s : List ℤ) (m : ℕ) (f : ℕ → List ℤ) → ((i : ℕ) → m ≤ i → Zeros p.n (f i)) → Same q p.n (phase_of p s (parts m (λ i. reduced q p.n (f i)))) (phase p.n s (f 0) (f 1) (f 2))
+pub phase_each : (p : Preset) (s : List ℤ) (m : ℕ) (f : ℕ → List ℤ) → ((i : ℕ) → m ≤ i → Zeros p.n (f i)) → Same q p.n (phase_of p s (parts m (λ i. reduced q p.n (f i)))) (phase p.n s (f 0) (f 1) (f 2))
 unfolding phase_of
 phase_each p s m f h =
     let c : List (List ℕ) = parts m (λ i. reduced q p.n (f i)) in
@@ -80,7 +80,7 @@ subtracted_noise p s a b m l E F x y =
 less_t : (t : ℕ) (c : ℤ) → c ≡ c -ℤ pos t +ℤ pos t *ℤ pos 1
 less_t t c = rw (z_mul_one (pos t)) (omega (arith, lines))
 
-centre_same : (p : Preset) (c : ℕ) → Cong p.t (pos c) (centre_t p.t c)
+pub centre_same : (p : Preset) (c : ℕ) → Cong p.t (pos c) (centre_t p.t c)
 unfolding centre_t
 centre_same p c = elim (cases_Bool (ltb (2 * c) p.t)) [
   | inl e ↦ rw e (cong_refl p.t (pos c))

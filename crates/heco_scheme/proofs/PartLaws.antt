@@ -9,8 +9,9 @@ use Rattle.std.proofs.lemmas.List.{get_or_past, ext_get_or}
 use Rattle.std.proofs.lemmas.List.FromFn.{get_or-map-range_with_len, length-map-range_with_len}
 use Rattle.heco_noise_laws.specs.Noise.{phase}
 use Rattle.heco_ring.proofs.Congruence.{same_refl, same_sym, same_trans, same_plus, same_times}
-use Rattle.heco_ring.proofs.Linear.{products, sums, negations, plus_times, scale_times, negate_times}
+use Rattle.heco_ring.proofs.Linear.{products, sums, negations, plus_times, scale_times, negate_times, times_plus}
 use Rattle.heco_ring.proofs.Reduced.{same_wholes}
+use Rattle.heco_ring.proofs.RingLaws.{times_assoc}
 use Rattle.heco_ring.specs.Remainders.{reduced, Same}
 use Rattle.heco_ring.specs.Ring.{at, wholes, plus, times, negate, scale}
 use Rattle.heco_scheme.specs.Ciphertexts.{part, parts}
@@ -46,3 +47,8 @@ phase_negate n s a0 a1 a2 = simp negations
 pub phase_scale : (n : ℕ) (c : ℤ) (s a0 a1 a2 : List ℤ) → phase n s (scale n c a0) (scale n c a1) (scale n c a2) ≡ scale n c (phase n s a0 a1 a2)
 unfolding phase
 phase_scale n c s a0 a1 a2 = simp products
+
+pub phase_times : (n : ℕ) (w s a0 a1 a2 : List ℤ) → phase n s (times n w a0) (times n w a1) (times n w a2) ≡ times n w (phase n s a0 a1 a2)
+unfolding phase
+phase_times n w s a0 a1 a2 =
+    rw (times_plus n w (plus n a0 (times n a1 s)) (times n (times n a2 s) s), times_plus n w a0 (times n a1 s), times_assoc n w a1 s, times_assoc n w a2 s, times_assoc n w (times n a2 s) s) refl

@@ -9,6 +9,7 @@ use Rattle.heco_nums.specs.Arithmetic.{centre_t, scaled}
 use Rattle.heco_nums.specs.declared.preset.Preset.{Preset}
 use Rattle.heco_ring.specs.Ring.{table, wholes, plus, negate, scale, times, turn, constant, sum_lists}
 use Rattle.heco_ring.specs.Remainders.{reduced}
+use Rattle.heco_slots.specs.Weighing.{weigher}
 use Rattle.heco_scheme.specs.Ciphertexts.{part, parts}
 use Rattle.heco_scheme.specs.Keys.{row}
 use Rattle.heco_scheme.specs.Noise.{q}
@@ -26,6 +27,18 @@ negated p a = parts (length a) (λ i. reduced q p.n (negate p.n (part a i)))
 -- the multiple by c, which is centred first
 unfoldable pub scaled_by : Preset → ℕ → List (List ℕ) → List (List ℕ)
 scaled_by p c a = parts (length a) (λ i. reduced q p.n (scale p.n (centre_t p.t c) (part a i)))
+
+-- each part times w
+unfoldable pub times_each : Preset → List ℤ → List (List ℕ) → List (List ℕ)
+times_each p w a = parts (length a) (λ i. reduced q p.n (times p.n w (part a i)))
+
+-- each part times the polynomial that the plain vector v weighs by
+unfoldable pub weighed : Preset → List ℕ → List (List ℕ) → List (List ℕ)
+weighed p v a = times_each p (weigher p v) a
+
+-- that polynomial modulo q
+unfoldable pub weigher_words : Preset → List ℕ → List ℕ
+weigher_words p v = reduced q p.n (weigher p v)
 
 -- c times q / t is added to coefficient 0 of part 0
 unfoldable pub shifted : Preset → ℕ → List (List ℕ) → List (List ℕ)

@@ -5,10 +5,11 @@ ghost use Rattle.heco_ring.specs.Remainders.{reduced};
 ghost use Rattle.heco_ring.specs.Ring.{wholes};
 ghost use Rattle.heco_noise.specs.Rows as row;
 ghost use Rattle.heco_slots.specs.Messages as message;
+ghost use Rattle.heco_slots.specs.Weighing.{vector_weight};
 ghost use Rattle.heco_scheme.specs.Bounds.{AreErrors, IsSparse};
 ghost use Rattle.heco_scheme.specs.Ciphertexts.{AreTwoParts};
 ghost use Rattle.heco_scheme.specs.Encryption.{decrypted, encrypted};
-ghost use Rattle.heco_scheme.specs.Gates.{added, multiplied, negated, relinearised, scaled_by, shifted, subtracted, turned};
+ghost use Rattle.heco_scheme.specs.Gates.{added, multiplied, negated, relinearised, scaled_by, shifted, subtracted, times_each, turned, weighed, weigher_words};
 ghost use Rattle.heco_scheme.specs.Keys.{IsPublicKey, IsSwitchKey, square, turned as turned_secret};
 ghost use Rattle.heco_scheme.specs.Noise.{noise};
 
@@ -38,6 +39,18 @@ pub fn noise_of_a_negative()
 #[tactic(auto, using(crate::proofs::LinearNoise::scaled_noise))]
 pub fn noise_of_a_multiple()
     ensures { (p : Preset) (s : List ℤ) (c : ℕ) (a : List (List ℕ)) (m : List ℕ) (E : ℕ) → noise p s a m ≤ E → noise p s (scaled_by p c a) (message.multiple p c m) ≤ row.scaled_by p.t c E }
+{}
+
+/// By the vector's weight, whatever its numbers are.
+#[tactic(auto, using(crate::proofs::WeighedNoise::weighed_noise))]
+pub fn noise_of_a_weighed()
+    ensures { (p : Preset) (s : List ℤ) (v : List ℕ) (a : List (List ℕ)) (m : List ℕ) (E : ℕ) → noise p s a m ≤ E → noise p s (weighed p v a) (message.weighed p v m) ≤ row.weighed (vector_weight p v) E }
+{}
+
+/// A vector may weigh by its polynomial's remainders modulo q.
+#[tactic(auto, using(crate::proofs::WeighedNoise::weighed_by_words))]
+pub fn words_weigh_alike()
+    ensures { (p : Preset) (v : List ℕ) (a : List (List ℕ)) → times_each p (wholes (weigher_words p v)) a ≡ weighed p v a }
 {}
 
 #[tactic(auto, using(crate::proofs::LinearNoise::shifted_noise))]
