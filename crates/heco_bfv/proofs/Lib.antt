@@ -7,3 +7,4 @@ pub mod RoundTrip
 pub mod Seen
 pub mod Shapes
 pub mod SwitchSteps
+pub mod Weighers

@@ -4,7 +4,8 @@ use native.Mathlib.Omega.{arith}
 use native.Mathlib.Nat.{mod-lt}
 use mathlib.Core.Path.{◌≡◌, refl, ◌∙◌}
 use mathlib.Core.List.{List}
-use lib.ListN.{get_or}
+use lib.ListN.{length, get_or}
+use Rattle.std.specs.Prelude.{All}
 use Rattle.heco_nums.specs.declared.preset.Preset.{Preset}
 use Rattle.heco_nums.proofs.PresetFacts.{facts}
 use Rattle.heco_slots.specs.Messages as message
@@ -12,6 +13,7 @@ use Rattle.heco_slots.specs.Rows.{slot_in}
 use Rattle.heco_slots.specs.Slots.{decoded}
 use Rattle.heco_slots.proofs.PresetSlots.{decoded_encoded, decoded_long, decoded_at}
 use Rattle.heco_slots.proofs.SlotsInRow.{first_is_read, in_sum, in_difference, in_opposite, in_multiple, in_raised, in_product, in_turned}
+use Rattle.heco_slots.proofs.WeighedSlots.{first_weighed}
 
 slot_at : (p : Preset) (m : List ℕ) (j : ℕ) → j < p.slots → get_or (decoded p m) j 0 ≡ slot_in p 1 m j
 slot_at p m j h = decoded_at p m j h ∙ first_is_read p m j
@@ -34,6 +36,9 @@ raised_slot p c m j h = rw (slot_at p (message.raised p c m) j h, slot_at p m j 
 pub product_slot : (p : Preset) (m l : List ℕ) (j : ℕ) → j < p.slots → get_or (decoded p (message.product p m l)) j 0 ≡ get_or (decoded p m) j 0 * get_or (decoded p l) j 0 % p.t
 product_slot p m l j h = rw (slot_at p (message.product p m l) j h, slot_at p m j h, slot_at p l j h) (in_product p 1 m l j refl)
 
+pub weighed_slot : (p : Preset) (v m : List ℕ) (j : ℕ) → length v ≡ p.slots → All (λ x. x < p.t) v → j < p.slots → get_or (decoded p (message.weighed p v m)) j 0 ≡ get_or v j 0 * get_or (decoded p m) j 0 % p.t
+weighed_slot p v m j long below h = rw (slot_at p (message.weighed p v m) j h, slot_at p m j h) (first_weighed p v m j long below h)
+
 slots_pos : (n s : ℕ) → 0 < n → n ≡ 2 * s → 0 < s
 slots_pos n s p e = omega arith
 
@@ -43,4 +48,4 @@ turned_slot p r m j h =
     let w : (j + r) % p.slots < p.slots = mod-lt (j + r) s in
     rw (slot_at p (message.turned p r m) j h, slot_at p m ((j + r) % p.slots) w) (in_turned p 1 r m j refl)
 
-pub ruleset laws = (decoded_encoded, decoded_long, sum_slot, difference_slot, opposite_slot, multiple_slot, raised_slot, product_slot, turned_slot)
+pub ruleset laws = (decoded_encoded, decoded_long, sum_slot, difference_slot, opposite_slot, multiple_slot, raised_slot, product_slot, weighed_slot, turned_slot)

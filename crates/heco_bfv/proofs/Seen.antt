@@ -9,11 +9,11 @@ use Rattle.std.specs.Prelude.{Option, Some, None, replicate}
 use mathlib.Core.Logic.{inl, inr}
 use Rattle.std.proofs.lemmas.Bool.{cases_lt}
 use Rattle.std.proofs.lemmas.List.{get_or-replicate, get_or_past, length-replicate}
-use Rattle.heco_ring.proofs.Congruence.{same_refl, same_plus, same_scale, same_negate}
+use Rattle.heco_ring.proofs.Congruence.{same_refl, same_plus, same_scale, same_negate, same_times}
 use Rattle.heco_ring.proofs.Reduced.{reduced_same}
 use Rattle.heco_ring.proofs.Wrapping.{at-wholes}
 use Rattle.heco_ring.specs.Remainders.{reduced, Same}
-use Rattle.heco_ring.specs.Ring.{wholes, plus, scale, negate}
+use Rattle.heco_ring.specs.Ring.{wholes, plus, scale, negate, times}
 use Rattle.heco_scheme.specs.Noise.{q}
 use Rattle.heco_scheme.specs.Ciphertexts.{part, parts, IsCiphertext, AreTwoParts}
 use Rattle.heco_bfv.specs.Parts.{two_or_three, third_part, third_or}
@@ -125,6 +125,9 @@ two_parts n c x y o s e f g = record {
 
 pub third_scaled : (n : ℕ) (c : ℤ) (a : Option (List ℕ)) → reduced q n (scale n c (wholes (third_or n a))) ≡ reduced q n (scale n c (wholes (third_part a)))
 third_scaled n c a = reduced_same q n (scale n c (wholes (third_or n a))) (scale n c (wholes (third_part a))) (omega arith) (same_scale q n c (wholes (third_or n a)) (wholes (third_part a)) (same_third n a))
+
+pub third_product : (n : ℕ) (w : List ℤ) (a : Option (List ℕ)) → reduced q n (times n w (wholes (third_or n a))) ≡ reduced q n (times n w (wholes (third_part a)))
+third_product n w a = reduced_same q n (times n w (wholes (third_or n a))) (times n w (wholes (third_part a))) (omega arith) (same_times q n w w (wholes (third_or n a)) (wholes (third_part a)) (same_refl q n w) (same_third n a))
 
 pub third_negated : (n : ℕ) (a : Option (List ℕ)) → reduced q n (negate n (wholes (third_or n a))) ≡ reduced q n (negate n (wholes (third_part a)))
 third_negated n a = reduced_same q n (negate n (wholes (third_or n a))) (negate n (wholes (third_part a))) (omega arith) (same_negate q n (wholes (third_or n a)) (wholes (third_part a)) (same_third n a))

@@ -18,7 +18,7 @@ use Rattle.heco_ring.specs.Ring.{wholes, plus, negate, scale, constant, times, t
 use Rattle.heco_ring.proofs.Reduced.{length-reduced}
 use Rattle.heco_noise_laws.specs.Noise.{round_part}
 use Rattle.heco_scheme.specs.Ciphertexts.{part, parts, IsCiphertext}
-use Rattle.heco_scheme.specs.Gates.{added, subtracted, negated, scaled_by, shifted, multiplied, digits, switched, relinearised, turned}
+use Rattle.heco_scheme.specs.Gates.{added, subtracted, negated, scaled_by, times_each, shifted, multiplied, digits, switched, relinearised, turned}
 use Rattle.heco_scheme.specs.Keys.{row}
 use Rattle.heco_scheme.specs.Noise.{q}
 use Rattle.heco_scheme.specs.Rounding.{centred, rounded_all}
@@ -66,6 +66,14 @@ scaled_ciphertext p c a h = parts_ciphertext p.n (length a) (λ i. scale p.n (ce
 pub scaled_count : (p : Preset) (c : ℕ) (a : List (List ℕ)) → length (scaled_by p c a) ≡ length a
 unfolding scaled_by
 scaled_count p c a = length-parts (length a) (λ i. reduced q p.n (scale p.n (centre_t p.t c) (part a i)))
+
+pub times_ciphertext : (p : Preset) (w : List ℤ) (a : List (List ℕ)) → (length a ≡ 2) ⊎ (length a ≡ 3) → IsCiphertext p.n (times_each p w a)
+unfolding times_each
+times_ciphertext p w a h = parts_ciphertext p.n (length a) (λ i. times p.n w (part a i)) h
+
+pub times_count : (p : Preset) (w : List ℤ) (a : List (List ℕ)) → length (times_each p w a) ≡ length a
+unfolding times_each
+times_count p w a = length-parts (length a) (λ i. reduced q p.n (times p.n w (part a i)))
 
 pub shifted_ciphertext : (p : Preset) (c : ℕ) (a : List (List ℕ)) → (length a ≡ 2) ⊎ (length a ≡ 3) → IsCiphertext p.n (shifted p c a)
 unfolding shifted

@@ -19,6 +19,7 @@ pub fn slots_of_the_messages()
     ensures multiple { (p : Preset) (c : ℕ) (m : List ℕ) (j : ℕ) → j < p.slots → slice_index (decoded p (message.multiple p c m)) j ≡ c * slice_index (decoded p m) j % p.t }
     ensures shift { (p : Preset) (c : ℕ) (m : List ℕ) (j : ℕ) → j < p.slots → slice_index (decoded p (message.raised p c m)) j ≡ (slice_index (decoded p m) j + c) % p.t }
     ensures product { (p : Preset) (m l : List ℕ) (j : ℕ) → j < p.slots → slice_index (decoded p (message.product p m l)) j ≡ slice_index (decoded p m) j * slice_index (decoded p l) j % p.t }
+    ensures weighed { (p : Preset) (v m : List ℕ) (j : ℕ) → length v ≡ p.slots → All (λ x. x < p.t) v → j < p.slots → slice_index (decoded p (message.weighed p v m)) j ≡ slice_index v j * slice_index (decoded p m) j % p.t }
     ensures turn { (p : Preset) (r : ℕ) (m : List ℕ) (j : ℕ) → j < p.slots → slice_index (decoded p (message.turned p r m)) j ≡ slice_index (decoded p m) ((j + r) % p.slots) }
 {}
 

@@ -2,7 +2,7 @@ ghost use Rattle.std.specs.Prelude.{◌≡◌, ◌<◌, ◌^◌, length, replica
 ghost use Rattle.std.specs.Int.RustNames.{unsigned_abs};
 ghost use Rattle.heco_nums.specs.Arithmetic as number;
 ghost use Rattle.heco_ring.specs.Remainders.{reduced};
-ghost use Rattle.heco_ring.specs.Ring.{wholes, plus, negate, scale};
+ghost use Rattle.heco_ring.specs.Ring.{wholes, plus, negate, scale, times};
 ghost use Rattle.heco_bfv.specs.Parts.{third_part, third_or};
 
 use heco_nums::Preset;
@@ -120,6 +120,19 @@ pub fn multiple_third(a: &Option<Poly>, c: i64, zero: &Poly, out: &mut Poly)
 {
     take_third(a, zero, out);
     out.scale_in(c);
+}
+
+/// The product of m and a third part.
+pub fn product_third(m: &Poly, a: &Option<Poly>, zero: &Poly, out: &mut Poly)
+    requires m { length m.now ≡ length out.old }
+    requires zero { zero.now ≡ replicate (length out.old) 0 }
+    requires a { length (third_or (length out.old) a.now) ≡ length out.old }
+    ensures { let n = length out.old in out.new ≡ reduced (2 ^ 58) n (times n (wholes m.now) (wholes (third_part a.now))) }
+{
+    match a {
+        Some(c) => Poly::mul_into(m, c, out),
+        None => Poly::mul_into(m, zero, out),
+    }
 }
 
 /// c between -t/2 and t/2.

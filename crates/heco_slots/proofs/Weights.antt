@@ -45,7 +45,7 @@ unfolding sum_n
 sum_n_ext zero f g h = refl
 sum_n_ext (suc n) f g h = let e : sum_n n f ≡ sum_n n g = sum_n_ext n f g (λ k l. h k (omega arith)) in let d : f n ≡ g n = h n (omega arith) in cc
 
-two_at : (p : Preset) (v w : List ℕ) (k : ℕ) → k < p.n → get_or (encoded_two p v w) k 0 ≡ encoded_two_at p v w k
+pub two_at : (p : Preset) (v w : List ℕ) (k : ℕ) → k < p.n → get_or (encoded_two p v w) k 0 ≡ encoded_two_at p v w k
 unfolding encoded_two
 two_at p v w k h = get_or-map-range_with_len (encoded_two_at p v w) 0 p.n k k 0 h (omega arith)
 
