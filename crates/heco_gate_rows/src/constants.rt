@@ -1,7 +1,7 @@
-ghost use Rattle.std.specs.Prelude.{◌≡◌, ◌<◌, IfOk, length};
+ghost use Rattle.std.specs.Prelude.{◌≡◌, ◌<◌, All, IfOk, length};
 ghost use Rattle.heco_scheme.specs.Ciphertexts.{IsCiphertext};
 
-use crate::gates::{constant, constants, difference, multiple, product};
+use crate::gates::{constant, constants, difference, multiple, product, weighed};
 use crate::parse::word;
 use heco_bfv::Ct;
 use heco_nums::{Memory, Preset};
@@ -12,6 +12,8 @@ use std::test::Fail;
 const ROWS: &str = "square|1125899906842624 0|1130297953353728 0 0
 square|7 1125899906842624|0 14 1130297953353728
 times 200|1125899906842624 3|224054081461682176 288230376151711573
+times 200 in each slot|1125899906842624 3|224054081461682176 288230376151711573
+square times 200 in each slot|7 1125899906842624|0 288230376151710946 223803392810549248
 less its square|7 1125899906842624|7 1125899906842610 287100078198358016";
 
 fn less_square(alloc: Global, p: &Preset, a: &Ct) -> Result<Ct, Memory>
@@ -22,7 +24,18 @@ fn less_square(alloc: Global, p: &Preset, a: &Ct) -> Result<Ct, Memory>
     difference(alloc, p, a, &square)
 }
 
+fn square_weighed(alloc: Global, p: &Preset, v: &[u32], a: &Ct) -> Result<Ct, Memory>
+    requires v { length v.now ≡ p.now.slots }
+    requires below { All (λ x. x < p.now.t) v.now }
+    requires ciphertext { IsCiphertext p.now.n a.now }
+    requires two { length a.now ≡ 2 }
+{
+    let square = product(alloc, p, a, a)?;
+    weighed(alloc, p, v, &square)
+}
+
 fn result(alloc: Global, p: &Preset, operation: &str, a: &Ct) -> Result<Ct, Memory>
+    requires slots { p.now.slots ≡ 8 }
     requires modulus { 200 < p.now.t }
     requires ciphertext { IsCiphertext p.now.n a.now }
     requires two { length a.now ≡ 2 }
@@ -30,6 +43,8 @@ fn result(alloc: Global, p: &Preset, operation: &str, a: &Ct) -> Result<Ct, Memo
     match operation {
         "square" => product(alloc, p, a, a),
         "times 200" => multiple(alloc, p, 200, a),
+        "times 200 in each slot" => weighed(alloc, p, [200; 8].as_slice(), a),
+        "square times 200 in each slot" => square_weighed(alloc, p, [200; 8].as_slice(), a),
         _ => less_square(alloc, p, a),
     }
 }
@@ -55,6 +70,7 @@ fn operand(alloc: Global, p: &Preset, text: &str) -> Result<Ct, Fail>
 }
 
 fn gives(alloc: Global, p: &Preset, operation: &str, a: &Ct, want: &str) -> Result<bool, Fail>
+    requires slots { p.now.slots ≡ 8 }
     requires modulus { 200 < p.now.t }
     requires ciphertext { IsCiphertext p.now.n a.now }
     requires two { length a.now ≡ 2 }
@@ -64,7 +80,8 @@ fn gives(alloc: Global, p: &Preset, operation: &str, a: &Ct, want: &str) -> Resu
 }
 
 fn holds(alloc: Global, p: &Preset, row: &str) -> Result<bool, Fail>
-    requires { 200 < p.now.t }
+    requires slots { p.now.slots ≡ 8 }
+    requires modulus { 200 < p.now.t }
 {
     let mut fields = row.split('|');
     let operation = fields.next().ok_or("no operation")?;
@@ -78,6 +95,7 @@ fn holds(alloc: Global, p: &Preset, row: &str) -> Result<bool, Fail>
 fn each_gate_on_constants_gives_these(rt: HostRuntime) -> Result<(), Fail> {
     let p8 = Preset::by_id(1).ok_or("no preset")?;
     assert_eq!(rt; p8.t, 257);
+    assert_eq!(rt; p8.slots, 8);
     for row in ROWS.lines() {
         assert!(rt; holds(rt.alloc(), &p8, row)?, "{row}");
     }

@@ -1,7 +1,7 @@
 ghost use Rattle.std.specs.Prelude.{◌≡◌, ◌<◌, ◌≤◌, All, IfOk, length};
 ghost use Rattle.heco_scheme.specs.Ciphertexts.{IsCiphertext};
 
-use crate::gates::{product, relinearised, turned};
+use crate::gates::{product, relinearised, turned, weighed};
 use crate::material::{first_words, second_words};
 use crate::owner::{Owner, opened, relin_key, sealed, turn_key};
 use heco_bfv::Ct;
@@ -106,4 +106,24 @@ pub fn opened_turn(alloc: Global, o: &Owner, r: u16, slots: &[u32]) -> Result<Ve
 {
     let a = first(alloc, o, slots)?;
     opened_turned(alloc, o, r, &a)
+}
+
+fn opened_by_weight(alloc: Global, o: &Owner, v: &[u32], a: &Ct) -> Result<Vec<u32>, Fail>
+    requires v { length v.now ≡ o.now.eval.preset.slots }
+    requires v_below { All (λ x. x < o.now.eval.preset.t) v.now }
+    requires a { IsCiphertext o.now.eval.preset.n a.now }
+{
+    let c = weighed(alloc, o.eval.preset(), v, a)?;
+    Ok(opened(alloc, o, &c)?)
+}
+
+/// What the encrypted slots, weighed by the plain vector v, decrypt to.
+pub fn opened_weighed(alloc: Global, o: &Owner, v: &[u32], slots: &[u32]) -> Result<Vec<u32>, Fail>
+    requires v { length v.now ≡ o.now.eval.preset.slots }
+    requires v_below { All (λ x. x < o.now.eval.preset.t) v.now }
+    requires slots { length slots.now ≡ o.now.eval.preset.slots }
+    requires below { All (λ x. x < o.now.eval.preset.t) slots.now }
+{
+    let a = first(alloc, o, slots)?;
+    opened_by_weight(alloc, o, v, &a)
 }

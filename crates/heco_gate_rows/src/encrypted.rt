@@ -3,7 +3,7 @@ ghost use Rattle.heco_keys.specs.Amounts.{AreAmounts};
 ghost use Rattle.heco_nums.specs.Needs.{IsRising};
 ghost use Rattle.heco_scheme.specs.Ciphertexts.{IsCiphertext};
 
-use crate::decrypted::{opened_product, opened_turn};
+use crate::decrypted::{opened_product, opened_turn, opened_weighed};
 use crate::gates::constant;
 use crate::material::{file, key_file, second_words};
 use crate::owner::{Owner, back, keys_of, opened, sealed};
@@ -63,6 +63,17 @@ fn turn(alloc: Global, p: &Preset, a: &[u32]) -> Result<Vec<u32>, Fail>
     opened_turn(alloc, &o, 1, a)
 }
 
+// The slots a times the plain vector v.
+fn weighed(alloc: Global, p: &Preset, v: &[u32], a: &[u32]) -> Result<Vec<u32>, Fail>
+    requires v { length v.now ≡ p.now.slots }
+    requires v_below { All (λ x. x < p.now.t) v.now }
+    requires a { length a.now ≡ p.now.slots }
+    requires a_below { All (λ x. x < p.now.t) a.now }
+{
+    let o = owner_by_file(alloc, p, true, [].as_slice())?;
+    opened_weighed(alloc, &o, v, a)
+}
+
 // What encrypting and decrypting at once gives.
 fn back_by(alloc: Global, p: &Preset, keys: &[u8], a: &[u32]) -> Result<Vec<u32>, Fail>
     requires slots { length a.now ≡ p.now.slots }
@@ -96,6 +107,17 @@ fn given_turn(alloc: Global) -> Result<Vec<u32>, Fail> {
     turn(alloc, &p8, [1, 2, 3, 4, 5, 6, 7, 8].as_slice())
 }
 
+fn given_weighed(alloc: Global) -> Result<Vec<u32>, Fail> {
+    let p8 = smallest()?;
+    let v = [2, 3, 0, 256, 200, 1, 0, 7];
+    weighed(
+        alloc,
+        &p8,
+        v.as_slice(),
+        [4, 5, 6, 7, 8, 9, 0, 256].as_slice(),
+    )
+}
+
 fn given_back(alloc: Global) -> Result<Vec<u32>, Fail> {
     let p8 = smallest()?;
     back_again(alloc, &p8, [1, 0, 256, 3, 5, 128, 129, 100].as_slice())
@@ -114,6 +136,13 @@ fn a_turn_by_one(rt: HostRuntime) -> Result<(), Fail> {
         given_turn(rt.alloc())?.as_slice(),
         [2, 3, 4, 5, 6, 7, 8, 1].as_slice()
     );
+    Ok(())
+}
+
+#[test]
+fn an_input_weighed_by_a_plain_vector(rt: HostRuntime) -> Result<(), Fail> {
+    let wanted = [8, 15, 0, 250, 58, 9, 0, 250];
+    assert_eq!(rt; given_weighed(rt.alloc())?.as_slice(), wanted.as_slice());
     Ok(())
 }
 

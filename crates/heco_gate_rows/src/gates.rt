@@ -1,11 +1,12 @@
-ghost use Rattle.std.specs.Prelude.{◌≡◌, ◌<◌, ◌≤◌, IfOk, length};
+ghost use Rattle.std.specs.Prelude.{◌≡◌, ◌<◌, ◌≤◌, All, IfOk, length};
 ghost use Rattle.heco_scheme.specs.Ciphertexts.{IsCiphertext};
 ghost use Rattle.heco_scheme.specs.Keys.{AreRows};
 
-use heco_bfv::{Ct, Gates};
+use heco_bfv::{Ct, Gates, weigher};
 use heco_keys::SwitchKey;
 use heco_nums::{Memory, Preset};
 use heco_poly::Poly;
+use heco_slots::SlotTable;
 use std::alloc::Global;
 
 /// c at coefficient 0.
@@ -96,6 +97,30 @@ pub fn multiple(alloc: Global, p: &Preset, c: u32, a: &Ct) -> Result<Ct, Memory>
     let mut gates = Gates::open(alloc, p)?;
     let mut out = Ct::zero(alloc, p, 2)?;
     gates.scale(c, a, &mut out);
+    Ok(out)
+}
+
+// The polynomial of the plain vector v.
+fn weigher_of(alloc: Global, p: &Preset, v: &[u32]) -> Result<Poly, Memory>
+    requires v { length v.now ≡ p.now.slots }
+    requires below { All (λ x. x < p.now.t) v.now }
+    ensures { IfOk result (λ m. length m ≡ p.now.n) }
+{
+    let table = SlotTable::build(alloc, p)?;
+    weigher(alloc, &table, v)
+}
+
+/// a, slot by slot times the plain vector v, in as many parts.
+pub fn weighed(alloc: Global, p: &Preset, v: &[u32], a: &Ct) -> Result<Ct, Memory>
+    requires v { length v.now ≡ p.now.slots }
+    requires below { All (λ x. x < p.now.t) v.now }
+    requires a { IsCiphertext p.now.n a.now }
+    ensures ciphertext { IfOk result (λ c. IsCiphertext p.now.n c) }
+{
+    let m = weigher_of(alloc, p, v)?;
+    let mut gates = Gates::open(alloc, p)?;
+    let mut out = Ct::zero(alloc, p, a.parts())?;
+    gates.weigh(&m, a, &mut out);
     Ok(out)
 }
 
