@@ -1,5 +1,6 @@
 # Draws the listing of a circuit as a picture in SVG. Wires go from column to column; one that is used beyond the next
-# column has a lane in each column that it passes, so that none runs through a gate.
+# column has a lane in each column that it passes, so that none runs through a gate. Lines `measured WIRE NOISE BOUND`
+# before the listing give the measured noise of wires.
 
 BEGIN {
   STEP = 132; HALF = 33; HIGH = 21; TALL = 76; THIN = 26; MARGIN = 30; LINE = 16; MOST = 20; BOX = 190; FULL = 45
@@ -9,6 +10,8 @@ BEGIN {
     fresh[cell[i]] = (cell[i + 1] - 1) / 2 + cell[i + 1] * cell[i + 3] * (2 * cell[i + 2] + 1)
   wires = outs = gates = columns = 0
 }
+
+$1 == "measured" { noise[$2] = $3; measured = 1; next }
 
 $1 == "params" { params = $2; next }
 
@@ -108,7 +111,10 @@ function place_outputs(    o, r, sum, count) {
   for (o = 0; o < outs; o++) { middle[o] = spot[o]; height[o] = high[o] - LINE / 2 }
 }
 
-function bits(wire) { return bound[wire] < 1 ? 57 : log(2 ^ 57 / bound[wire]) / log(2) }
+# how many bits it is below half the modulus
+function below(size) { return size < 1 ? 57 : log(2 ^ 57 / size) / log(2) }
+
+function bits(wire) { return below(bound[wire]) }
 
 function across(c) { return MARGIN + HALF + c * STEP }
 
@@ -176,11 +182,12 @@ function draw_nodes(    w, i, of, left, short) {
     for (i = 0; i < taken[w]; i++) of = of " " operand[w, i]
     left = bits(w)
     short = length(label[w]) > 11 ? substr(label[w], 1, 9) ".." : label[w]
-    printf "<g fill=\"%s\" stroke=\"%s\" stroke-width=\"1.5\"><title>wire %d: %s%s, bound %s</title>%s</g>\n", \
-      tint(left, 0.6), tint(left, 0), w, label[w], of, bound[w], shape(kind[w], across(depth[w]), at[w, depth[w]])
+    printf "<g fill=\"%s\" stroke=\"%s\" stroke-width=\"1.5\"><title>wire %d: %s%s, bound %s%s</title>%s</g>\n", \
+      tint(left, 0.6), tint(left, 0), w, label[w], of, bound[w], w in noise ? ", noise " noise[w] : "", \
+      shape(kind[w], across(depth[w]), at[w, depth[w]])
     text(across(depth[w]), at[w, depth[w]] + 4, length(short) > 9 ? 10 : 12, "middle", short)
     text(across(depth[w]) - HALF, at[w, depth[w]] - 25, 10, "start", w)
-    text(across(depth[w]), at[w, depth[w]] + 34, 10, "middle", sprintf("%.1f", left))
+    text(across(depth[w]), at[w, depth[w]] + 34, 10, "middle", sprintf("%.1f", left) (w in noise ? sprintf(" / %.1f", below(noise[w])) : ""))
   }
 }
 
@@ -205,6 +212,7 @@ function draw_legend(y,    left) {
   text(MARGIN, y + 26, 11, "start", FULL)
   text(MARGIN + 6 * FULL, y + 26, 11, "end", "0")
   text(MARGIN + 6 * FULL + 12, y + 10, 11, "start", "bits that a bound is below 2^57; where none is left a circuit is refused")
+  if (measured) text(MARGIN + 6 * FULL + 12, y + 26, 11, "start", "at a wire: those of its bound / of its measured noise")
 }
 
 function draw(    width, tall, w, least) {

@@ -23,6 +23,7 @@ keys c k s v|c 536870912$k 16865$|0
 encrypt c v e i t|c 536870912$v 59672$e 97$i 4194305$|0
 run c v t r|c 536870912$v 59672$t 523$|0
 decrypt c s r|c 536870912$s 23$r 267$|1
+measure c s v t|c 536870912$s 23$v 59672$t 523$|1
 exec f i k e c2 s2 v2 t2 r2|f 1048577$i 4194305$k 16865$e 97$|1
 exec f none k e c2 s2 v2 t2 r2|f 1048577$none 4194305$|0
 show f|f 536870912$|0

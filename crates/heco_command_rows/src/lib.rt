@@ -10,4 +10,6 @@ mod chain;
 #[cfg(test)]
 mod commands;
 #[cfg(test)]
+mod measured;
+#[cfg(test)]
 mod plain;

@@ -4,3 +4,4 @@ pub mod Ready
 pub mod JobLaws
 pub mod KeyLaws
 pub mod ChainLaws
+pub mod ChainFiles

@@ -1,14 +1,17 @@
 -- What follows of the job of `exec`.
-use Rattle.std.specs.Prelude.{◌≡◌, ℕ, true, List, [], ◌∷◌, ◌++◌}
+use Rattle.std.specs.Prelude.{◌≡◌, ℕ, true, List, [], ◌∷◌, ◌++◌, map}
 use Rattle.heco_material.specs.KeyLists.{KeyLists}
 use Rattle.heco_material.specs.declared.words.EncRow.{EncRow}
 use Rattle.heco_nums.specs.declared.shape.Values.{Values}
+use Rattle.heco_products.specs.PresetRows.{preset_of}
+use Rattle.heco_run_laws.specs.Messages.{input_message}
 use Rattle.heco_syntax.specs.declared.tree.Source.{Source}
 use Rattle.heco_jobs.specs.Agents.{Agents}
 use Rattle.heco_jobs.specs.Done.{Done}
 use Rattle.heco_jobs.specs.Laws.{IsClear, HasFiles}
 use Rattle.heco_jobs.specs.Outsides.{Files, Outside}
-use Rattle.heco_jobs.specs.Words.{are_distinct}
+use Rattle.heco_jobs.specs.Words.{are_distinct, name_of}
+use Rattle.heco_tasks.specs.MeasuredFiles.{HoldChainFiles}
 use Rattle.heco_exec.specs.ExecTask.{exec_job}
 use Rattle.heco_exec.specs.Headline.{AreApart, AreGiven, IsExecuted}
 
@@ -35,3 +38,9 @@ abbrev pub GivenIsReady : Type 0
 GivenIsReady =
     (words : List (List ℕ)) (agents : Agents) (file : Files) (source : Source) (values : Values) (keys : KeyLists) (material : List EncRow) → AreGiven words file source values keys material
     → IsClear words (exec_job agents) file × HasFiles words (exec_job agents) file
+
+-- the circuit, both keys and the encrypted inputs that it has written are files of one chain, so that `measure` prints no noise of them above its bound
+abbrev pub ExecutedFilesAreOfOneChain : Type 0
+ExecutedFilesAreOfOneChain =
+    (words : List (List ℕ)) (command : List ℕ) (file file' : Files) (printed : List ℕ) (e : IsExecuted words file file' printed)
+    → HoldChainFiles (command ∷ name_of words 5 ∷ name_of words 6 ∷ name_of words 7 ∷ name_of words 8 ∷ []) file' e.circuit e.keys e.material (map (input_message (preset_of e.circuit.preset)) e.values.rows)

@@ -1,4 +1,4 @@
-ghost use Rattle.heco_exec.specs.Laws.{DistinctAreApart, DoneIsExecuted, GivenIsReady};
+ghost use Rattle.heco_exec.specs.Laws.{DistinctAreApart, DoneIsExecuted, ExecutedFilesAreOfOneChain, GivenIsReady};
 
 /// Where `exec` is done on nine file words that differ, all of the headline holds.
 pub fn done_is_executed()
@@ -10,4 +10,10 @@ pub fn done_is_executed()
 /// due.
 pub fn given_is_ready()
     ensures { GivenIsReady }
+{}
+
+/// What it has written of the circuit, of both keys and of the inputs are files of one chain, so that `measure` prints no
+/// noise of them above its bound.
+pub fn executed_files_are_of_one_chain()
+    ensures { ExecutedFilesAreOfOneChain }
 {}

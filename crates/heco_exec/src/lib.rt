@@ -9,4 +9,4 @@ mod laws;
 pub use chain::chain_product;
 pub use files::run_files;
 pub use keys::{made_keys, read_key_words};
-pub use laws::{done_is_executed, given_is_ready};
+pub use laws::{done_is_executed, executed_files_are_of_one_chain, given_is_ready};

@@ -71,6 +71,10 @@ abbrev pub deep_line : List ℕ → ℕ → ℕ → ℕ → List ℕ
 deep_line name out index bound =
     parts (name ∷ codes ": TooDeep out " ∷ decimal out ∷ codes " index " ∷ decimal index ∷ codes " bound " ∷ decimal bound ∷ codes "\n" ∷ [])
 
+-- the file word that the command reads as the evaluation key
+abbrev pub evaluation_name : List (List ℕ) → List ℕ
+evaluation_name words = if bytes_eq (name_of words 0) (codes "measure") then name_of words 3 else name_of words 2
+
 -- the key that is missing in the file of the evaluation key
 abbrev pub relin_line : List ℕ → List ℕ
 relin_line name = parts (name ∷ codes ": MissingRelin\n" ∷ [])
@@ -106,8 +110,8 @@ refusal_line words (Malformed which at) = offset_line (name_of words which) (cod
 refusal_line words (Noisy which gate bound) = noisy_line (name_of words which) gate bound
 refusal_line words (WrongPreset which kept found) = other_line (name_of words which) (codes "WrongPreset") kept found
 refusal_line words (Count which want found) = other_line (name_of words which) (codes "Count") want found
-refusal_line words MissingRelin = relin_line (name_of words 2)
-refusal_line words (MissingKey amount) = key_line (name_of words 2) amount
+refusal_line words MissingRelin = relin_line (evaluation_name words)
+refusal_line words (MissingKey amount) = key_line (evaluation_name words) amount
 
 -- the line for an outcome
 abbrev pub line_of : List (List ℕ) → Outcome → List ℕ

@@ -1,7 +1,7 @@
 ghost use Rattle.std.specs.Prelude.{◌≡◌, IsTrue, codes};
 ghost use Rattle.heco_outside.specs.Calls.{Wrote};
 ghost use Rattle.heco_outside.specs.Causes.{SinkCause};
-ghost use Rattle.heco_jobs.specs.Lines.{line_of, refusal_line, Reports, rule_name, place_line, input_name, input_rule, long_line, input_line, missing_line, offset_line, noisy_line, deep_line, relin_line, key_line, other_line, read_line, write_line};
+ghost use Rattle.heco_jobs.specs.Lines.{line_of, refusal_line, Reports, rule_name, place_line, input_name, input_rule, long_line, input_line, missing_line, offset_line, noisy_line, deep_line, evaluation_name, relin_line, key_line, other_line, read_line, write_line};
 ghost use Rattle.heco_jobs.specs.Words.{texts};
 
 use crate::words::name_of;
@@ -199,6 +199,17 @@ fn write_deep<E: Sink>(
     )
 }
 
+// The file word that the command reads as the evaluation key.
+fn evaluation_name(words: &[String]) -> &str
+    ensures { result.now ≡ evaluation_name (texts words.now) }
+{
+    if name_of(words, 0) == "measure" {
+        name_of(words, 3)
+    } else {
+        name_of(words, 2)
+    }
+}
+
 // `EVA: MissingRelin`
 fn write_missing_relin<E: Sink>(name: &str, err: &mut E) -> Result<(), SinkErr>
     ensures cause { SinkCause (E.faults err.old) (E.faults err.new) (E.shortages err.old) (E.shortages err.new) result }
@@ -327,8 +338,8 @@ fn write_refusal<E: Sink>(words: &[String], refusal: Refusal, err: &mut E) -> Re
         Refusal::Count { which, want, found } => {
             write_count(name_of(words, which), want, found, err)
         }
-        Refusal::MissingRelin => write_missing_relin(name_of(words, 2), err),
-        Refusal::MissingKey { amount } => write_missing_key(name_of(words, 2), amount, err),
+        Refusal::MissingRelin => write_missing_relin(evaluation_name(words), err),
+        Refusal::MissingKey { amount } => write_missing_key(evaluation_name(words), amount, err),
     }
 }
 

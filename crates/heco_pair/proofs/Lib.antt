@@ -4,3 +4,4 @@ pub mod JobLaws
 pub mod Paired
 pub mod Ready
 mod Calls
+pub mod ChainFiles

@@ -3,12 +3,15 @@ use Rattle.std.specs.Prelude.{◌≡◌, ℕ, true, List, [], ◌∷◌, ◌++�
 use Rattle.heco_material.specs.KeyLists.{KeyLists}
 use Rattle.heco_material.specs.declared.words.EncRow.{EncRow}
 use Rattle.heco_nums.specs.declared.shape.Values.{Values}
+use Rattle.heco_products.specs.PresetRows.{preset_of}
+use Rattle.heco_run_laws.specs.Carried.{two_row_messages}
 use Rattle.heco_syntax.specs.declared.tree.Source.{Source}
 use Rattle.heco_jobs.specs.Agents.{Agents}
 use Rattle.heco_jobs.specs.Done.{Done}
 use Rattle.heco_jobs.specs.Laws.{IsClear, HasFiles}
 use Rattle.heco_jobs.specs.Outsides.{Files, Outside}
 use Rattle.heco_jobs.specs.Words.{are_distinct, name_of}
+use Rattle.heco_tasks.specs.MeasuredFiles.{HoldChainFiles}
 use Rattle.heco_exec.specs.Headline.{AreApart}
 use Rattle.heco_pair.specs.Headline.{ArePairGiven, IsPaired}
 use Rattle.heco_pair.specs.PairTask.{pair_job}
@@ -50,3 +53,9 @@ CallsPrintApart =
     → old.file (name_of words 1) ≡ old'.file (name_of words' 1)
     → (old.file (name_of words 2) ≡ old'.file (name_of words' 2) → call.first ≡ other.first)
     × (old.file (name_of words 3) ≡ old'.file (name_of words' 3) → call.second ≡ other.second)
+
+-- the circuit, both keys and the encrypted inputs that it has written are files of one chain, so that `measure` prints no noise of them above its bound
+abbrev pub PairedFilesAreOfOneChain : Type 0
+PairedFilesAreOfOneChain =
+    (words : List (List ℕ)) (command : List ℕ) (file file' : Files) (first_printed second_printed : List ℕ) (e : IsPaired words file file' first_printed second_printed)
+    → HoldChainFiles (command ∷ name_of words 6 ∷ name_of words 7 ∷ name_of words 8 ∷ name_of words 9 ∷ []) file' e.circuit e.keys e.material (two_row_messages (preset_of e.circuit.preset) e.first.rows e.second.rows)

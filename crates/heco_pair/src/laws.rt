@@ -1,4 +1,4 @@
-ghost use Rattle.heco_pair.specs.Laws.{CallsPrintApart, DistinctAreApart, DoneIsPaired, GivenIsReady};
+ghost use Rattle.heco_pair.specs.Laws.{CallsPrintApart, DistinctAreApart, DoneIsPaired, GivenIsReady, PairedFilesAreOfOneChain};
 
 /// Where `pair` is done on ten file words that differ, all of its headline holds, in both rows.
 pub fn done_is_paired()
@@ -16,4 +16,10 @@ pub fn given_is_ready()
 /// other text is.
 pub fn calls_print_apart()
     ensures { CallsPrintApart }
+{}
+
+/// What it has written of the circuit, of both keys and of the inputs are files of one chain, so that `measure` prints no
+/// noise of them above its bound.
+pub fn paired_files_are_of_one_chain()
+    ensures { PairedFilesAreOfOneChain }
 {}

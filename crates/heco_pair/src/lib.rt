@@ -5,4 +5,4 @@ mod chain;
 mod laws;
 
 pub use chain::pair_product;
-pub use laws::{calls_print_apart, done_is_paired, given_is_ready};
+pub use laws::{calls_print_apart, done_is_paired, given_is_ready, paired_files_are_of_one_chain};

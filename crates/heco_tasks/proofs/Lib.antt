@@ -5,3 +5,4 @@ pub mod JobLaws
 pub mod RunLaws
 pub mod MadeFileLaws
 pub mod MeasuredFileLaws
+pub mod MeasureLaws

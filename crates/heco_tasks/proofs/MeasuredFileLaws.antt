@@ -1,6 +1,6 @@
--- The files of one chain are read by `measure`, and no noise is above its bound.
-use Rattle.std.proofs.Common.{◌≡◌, ◌∙◌, ◌≤◌, ◌<◌, ℕ, List, length, Some, refl, sym, subst, arith}
-use Rattle.std.specs.Prelude.{All}
+-- The files of one chain are read by `measure`, and no noise that it prints of them is above its bound.
+use Rattle.std.proofs.Common.{◌≡◌, ◌∙◌, ◌≤◌, ◌<◌, ◌++◌, ℕ, List, [], length, Some, refl, sym, ap, subst, arith}
+use Rattle.std.specs.Prelude.{All, unwrap_or}
 use Rattle.std.specs.List.{range_with_len}
 use Rattle.std.proofs.lemmas.List.Elements.{All-map}
 use Rattle.std.proofs.lemmas.List.FromFn.{get_or-range_with_len, length-range_with_len}
@@ -15,6 +15,7 @@ use Rattle.heco_end_to_end.proofs.MeasuredRuns.{measured_within}
 use Rattle.heco_key_files.specs.KeyFiles.{EvalLists}
 use Rattle.heco_material.specs.KeyLists.{KeyLists}
 use Rattle.heco_material.specs.declared.words.EncRow.{EncRow}
+use Rattle.heco_measure.specs.Lines.{measured_text}
 use Rattle.heco_measure.specs.Measuring.{measured_wire, measured_wires}
 use Rattle.heco_measure.specs.declared.measuring.Measured.{Measured}
 use Rattle.heco_nums.specs.declared.preset.Preset.{Preset}
@@ -31,6 +32,7 @@ use Rattle.heco_jobs.specs.Outsides.{Files}
 use Rattle.heco_jobs.specs.Products.{Prints}
 use Rattle.heco_jobs.specs.Words.{name_of}
 use Rattle.heco_jobs.specs.declared.outcome.Refusal.{Refusal}
+use Rattle.heco_jobs.specs.declared.product.Product.{Product}
 use Rattle.heco_reads.proofs.CiphertextLaws.{ciphertexts_alone}
 use Rattle.heco_reads.proofs.CircuitLaws.{spells_once}
 use Rattle.heco_reads.proofs.KeyFileLaws.{evaluation_alone, secret_alone}
@@ -38,7 +40,7 @@ use Rattle.heco_reads.specs.CiphertextFiles.{SpellsCiphertexts, IsCiphertextsRef
 use Rattle.heco_reads.specs.CircuitFiles.{IsCircuitRefusal}
 use Rattle.heco_reads.specs.KeyFiles.{SpellsEvaluation, IsEvaluationRefusal, SpellsSecret, IsSecretRefusal}
 use Rattle.heco_tasks.proofs.MadeFileLaws.{made_keys_serve}
-use Rattle.heco_tasks.specs.MeasuredFiles.{HoldChainFiles, AreMeasuredWithinBounds, chain_lines}
+use Rattle.heco_tasks.specs.MeasuredFiles.{HoldChainFiles, ChainFilesAreReady, DoneIsWithinBounds, chain_lines}
 use Rattle.heco_tasks.specs.MeasureTask.{measure_job, measured_secret_job, measured_key_job, measured_served_job, noise_job, noise_text}
 
 -- ---- a file that can be read as one thing alone
@@ -68,18 +70,18 @@ module _ (words : List (List ℕ)) (agents : Agents) (file : Files) (c : Circuit
   inputs = encrypted_messages p key material messages
 
   spelled_circuit : Spells (circuit_text c) c
-  spelled_circuit = record { valid = held.provided.valid; text = refl }
+  spelled_circuit = record { valid = held.keys.provided.valid; text = refl }
 
   spelled_secret : SpellsSecret p (secret_file p k) k.s
-  spelled_secret = record { within = held.provided.keys.secret; spelled = refl }
+  spelled_secret = record { within = held.keys.provided.keys.secret; spelled = refl }
 
   spelled_key : SpellsEvaluation p (evaluation_file p c k) key
   unfolding evaluation_file
-  spelled_key = record { within = made_keys_read p c k held.provided.preset held.provided.keys; spelled = refl }
+  spelled_key = record { within = made_keys_read p c k held.keys.provided.preset held.keys.provided.keys; spelled = refl }
 
   spelled_inputs : SpellsCiphertexts Cts p (length c.inputs) (messages_file p key material messages) inputs
   unfolding messages_file
-  spelled_inputs = record { within = (runs_are_read p c k material messages held.provided held.count).0; spelled = refl }
+  spelled_inputs = record { within = (runs_are_read p c k material messages held.keys.provided held.count).0; spelled = refl }
 
   abbrev printed : List (List (List ℕ)) → Job
   printed cs = Give (asking_none agents (Prints (noise_text p c k.s key cs)))
@@ -104,27 +106,27 @@ module _ (words : List (List ℕ)) (agents : Agents) (file : Files) (c : Circuit
 
   key_clear : IsClear words (measured_key_job agents p c k.s) file
   unfolding measured_key_job
-  key_clear = clear_read words file 3 (SpellsEvaluation p) (IsEvaluationRefusal 3 p) (measured_served_job agents p c k.s) (evaluation_alone p) (evaluation_file p c k) key held.evaluation spelled_key served_clear
+  key_clear = clear_read words file 3 (SpellsEvaluation p) (IsEvaluationRefusal 3 p) (measured_served_job agents p c k.s) (evaluation_alone p) (evaluation_file p c k) key held.keys.evaluation spelled_key served_clear
 
   key_there : HasFiles words (measured_key_job agents p c k.s) file
   unfolding measured_key_job
-  key_there = there_read words file 3 (SpellsEvaluation p) (IsEvaluationRefusal 3 p) (measured_served_job agents p c k.s) (evaluation_alone p) (evaluation_file p c k) key held.evaluation spelled_key served_there
+  key_there = there_read words file 3 (SpellsEvaluation p) (IsEvaluationRefusal 3 p) (measured_served_job agents p c k.s) (evaluation_alone p) (evaluation_file p c k) key held.keys.evaluation spelled_key served_there
 
   secret_clear : IsClear words (measured_secret_job agents p c) file
   unfolding measured_secret_job
-  secret_clear = clear_read words file 2 (SpellsSecret p) (IsSecretRefusal 2 p) (measured_key_job agents p c) (secret_alone p) (secret_file p k) k.s held.secret spelled_secret key_clear
+  secret_clear = clear_read words file 2 (SpellsSecret p) (IsSecretRefusal 2 p) (measured_key_job agents p c) (secret_alone p) (secret_file p k) k.s held.keys.secret spelled_secret key_clear
 
   secret_there : HasFiles words (measured_secret_job agents p c) file
   unfolding measured_secret_job
-  secret_there = there_read words file 2 (SpellsSecret p) (IsSecretRefusal 2 p) (measured_key_job agents p c) (secret_alone p) (secret_file p k) k.s held.secret spelled_secret key_there
+  secret_there = there_read words file 2 (SpellsSecret p) (IsSecretRefusal 2 p) (measured_key_job agents p c) (secret_alone p) (secret_file p k) k.s held.keys.secret spelled_secret key_there
 
   circuit_clear : IsClear words (measure_job agents) file
   unfolding measure_job
-  circuit_clear = clear_read words file 1 Spells (IsCircuitRefusal 1) (λ d. measured_secret_job agents (preset_of d.preset) d) spells_once (circuit_text c) c held.circuit spelled_circuit secret_clear
+  circuit_clear = clear_read words file 1 Spells (IsCircuitRefusal 1) (λ d. measured_secret_job agents (preset_of d.preset) d) spells_once (circuit_text c) c held.keys.circuit spelled_circuit secret_clear
 
   circuit_there : HasFiles words (measure_job agents) file
   unfolding measure_job
-  circuit_there = there_read words file 1 Spells (IsCircuitRefusal 1) (λ d. measured_secret_job agents (preset_of d.preset) d) spells_once (circuit_text c) c held.circuit spelled_circuit secret_there
+  circuit_there = there_read words file 1 Spells (IsCircuitRefusal 1) (λ d. measured_secret_job agents (preset_of d.preset) d) spells_once (circuit_text c) c held.keys.circuit spelled_circuit secret_there
 
   abbrev line : ℕ → Measured
   line = measured_wire p k.s (keys_of key) c inputs
@@ -132,19 +134,24 @@ module _ (words : List (List ℕ)) (agents : Agents) (file : Files) (c : Circuit
   all_within : All (λ (m : Measured). m.noise ≤ m.bound) (chain_lines c k material messages)
   unfolding measured_wires
   all_within =
-      let bounded = (measured_within p c k material messages held.provided held.count held.are_messages).noises in
+      let bounded = (measured_within p c k material messages held.keys.provided held.count held.are_messages).noises in
       All-map (λ (m : Measured). m.noise ≤ m.bound) line (range_with_len 0 (wire_count c)) (λ i d l.
       (let inside : i < wire_count c = omega (arith, l, length-range_with_len 0 (wire_count c)) in
       let at = get_or-range_with_len 0 (wire_count c) i d inside ∙ omega arith in
       subst (λ (w : ℕ). (line w).noise ≤ (line w).bound) (sym at) (bounded i inside)))
 
-  pub measured_files : AreMeasuredWithinBounds words agents file c k material messages
+  -- what `measure` prints of them, whatever it owes
+  owed_text : (left : Agents) (product : Product) → Owes words (measure_job agents) left file product → Prints (measured_text (chain_lines c k material messages)) product
   unfolding Owes measure_job measured_secret_job measured_key_job measured_served_job noise_job noise_text
-  measured_files = record {
-    clear = circuit_clear;
-    there = circuit_there;
-    printed = λ left product owes.
-        (owes (circuit_text c) c held.circuit spelled_circuit (secret_file p k) k.s held.secret spelled_secret (evaluation_file p c k) key held.evaluation spelled_key tt (made_keys_serve p c k)
-        (messages_file p key material messages) inputs held.ciphertexts spelled_inputs).0;
-    within = all_within;
-  }
+  owed_text left product owes =
+      (owes (circuit_text c) c held.keys.circuit spelled_circuit (secret_file p k) k.s held.keys.secret spelled_secret (evaluation_file p c k) key held.keys.evaluation spelled_key tt (made_keys_serve p c k)
+      (messages_file p key material messages) inputs held.ciphertexts spelled_inputs).0
+
+pub chain_ready : ChainFilesAreReady
+chain_ready words agents file c k material messages held = (circuit_clear words agents file c k material messages held, circuit_there words agents file c k material messages held)
+
+pub done_is_within : DoneIsWithinBounds
+done_is_within words agents left old new d c k material messages held = (
+  d.printed ∙ ap (λ text. old.taken ++ unwrap_or text []) (owed_text words agents old.file c k material messages held left d.product d.owed).text,
+  all_within words agents old.file c k material messages held,
+)

@@ -20,7 +20,9 @@ pub use decrypt::gather_decrypt;
 pub use draw::gather_draw;
 pub use encrypt::gather_encrypt;
 pub use keys::gather_keys;
-pub use laws::{chain_files_are_measured_within_bounds, made_files_run};
+pub use laws::{
+    chain_files_are_ready, done_is_measured, encrypted_files_are_of_the_chain, made_files_run,
+};
 pub use measure::gather_measure;
 pub use plain::gather_plain;
 pub use run::run_product;

@@ -24,7 +24,7 @@ is_exec command = false
 -- ---- only the row of `exec` asks for it, and its words differ
 
 only_exec : IsOfHeadlines is_exec
-only_exec = record { none = refl; plain = refl; compile = refl; show = refl; draw = λ seed. refl; keys = refl; encrypt = refl; run = refl; decrypt = refl; sample = λ seed. refl }
+only_exec = record { none = refl; plain = refl; compile = refl; show = refl; draw = λ seed. refl; keys = refl; encrypt = refl; run = refl; decrypt = refl; measure = refl; sample = λ seed. refl }
 
 not_pair : (ws : List (List ℕ)) → is_exec (pair_of ws) ≡ false
 not_pair (a1 ∷ a2 ∷ a3 ∷ a4 ∷ a5 ∷ a6 ∷ a7 ∷ a8 ∷ a9 ∷ a10 ∷ []) = not_where is_exec only_exec (are_distinct (a1 ∷ a2 ∷ a3 ∷ a4 ∷ a5 ∷ a6 ∷ a7 ∷ a8 ∷ a9 ∷ a10 ∷ [])) Pair refl

@@ -6,3 +6,4 @@ pub mod PlainLaws
 mod RowLaws
 mod ExecLaws
 mod PairLaws
+mod MeasureLaws

@@ -22,7 +22,7 @@ is_pair command = false
 -- ---- only the row of `pair` asks for it, and its words differ
 
 only_pair : IsOfHeadlines is_pair
-only_pair = record { none = refl; plain = refl; compile = refl; show = refl; draw = λ seed. refl; keys = refl; encrypt = refl; run = refl; decrypt = refl; sample = λ seed. refl }
+only_pair = record { none = refl; plain = refl; compile = refl; show = refl; draw = λ seed. refl; keys = refl; encrypt = refl; run = refl; decrypt = refl; measure = refl; sample = λ seed. refl }
 
 not_exec : (ws : List (List ℕ)) → is_pair (exec_of ws) ≡ false
 not_exec (a1 ∷ a2 ∷ a3 ∷ a4 ∷ a5 ∷ a6 ∷ a7 ∷ a8 ∷ a9 ∷ []) = not_where is_pair only_pair (are_distinct (a1 ∷ a2 ∷ a3 ∷ a4 ∷ a5 ∷ a6 ∷ a7 ∷ a8 ∷ a9 ∷ [])) Exec refl

@@ -4,9 +4,9 @@ use Rattle.std.specs.Prelude.{◌⊎◌, if◌then◌else◌, codes}
 use Rattle.std.specs.Option.{option_map}
 use Rattle.std.specs.Str.{bytes_eq}
 use Rattle.heco_jobs.specs.Words.{are_distinct}
-use Rattle.heco_top.specs.Commands.{command_of, plain_of, compile_of, show_of, draw_of, keys_of, encrypt_of, run_of, decrypt_of, exec_of, pair_of, sample_of}
+use Rattle.heco_top.specs.Commands.{command_of, plain_of, compile_of, show_of, draw_of, keys_of, encrypt_of, run_of, decrypt_of, measure_of, exec_of, pair_of, sample_of}
 use Rattle.heco_top.specs.declared.command.Command.{Command}
-use Rattle.heco_top.specs.declared.command.Command.TheVariants.{Plain, Compile, Show, Draw, Keys, Encrypt, Run, Decrypt, Exec, Pair, Sample}
+use Rattle.heco_top.specs.declared.command.Command.TheVariants.{Plain, Compile, Show, Draw, Keys, Encrypt, Run, Decrypt, Measure, Exec, Pair, Sample}
 use Rattle.heco_top.specs.Seeds.{seed_of}
 
 -- a test that no command passes but `exec` or `pair`
@@ -20,6 +20,7 @@ pub record IsOfHeadlines (test : Option Command → Bool) : Type 0 where
   pub encrypt : test (Some Encrypt) ≡ false
   pub run : test (Some Run) ≡ false
   pub decrypt : test (Some Decrypt) ≡ false
+  pub measure : test (Some Measure) ≡ false
   pub sample : (seed : ℕ) → test (Some (Sample seed)) ≡ false
 
 module _ (test : Option Command → Bool) (only : IsOfHeadlines test) where
@@ -64,6 +65,10 @@ module _ (test : Option Command → Bool) (only : IsOfHeadlines test) where
   not_decrypt (a ∷ b ∷ c ∷ []) = not_where (are_distinct (a ∷ b ∷ c ∷ [])) Decrypt only.decrypt
   not_decrypt ws = only.none
 
+  not_measure : (ws : List (List ℕ)) → test (measure_of ws) ≡ false
+  not_measure (a ∷ b ∷ c ∷ d ∷ []) = not_where (are_distinct (a ∷ b ∷ c ∷ d ∷ [])) Measure only.measure
+  not_measure ws = only.none
+
   seed_alone : (seed : Option ℕ) → test (option_map (λ n. Sample n) seed) ≡ false
   seed_alone (Some n) = only.sample n
   seed_alone None = only.none
@@ -87,9 +92,10 @@ module _ (test : Option Command → Bool) (only : IsOfHeadlines test) where
   pub headline_row : (c : List ℕ) (ws : List (List ℕ)) → test (command_of (c ∷ ws)) ≡ true → (test (exec_of ws) ≡ true) ⊎ (test (pair_of ws) ≡ true)
   headline_row c ws e =
       let word = λ (name : List ℕ). bytes_eq c name in
-      let from11 : Option Command = if word (codes "sample") then sample_of ws else None in
-      let from10 : Option Command = if word (codes "pair") then pair_of ws else from11 in
-      let from9 : Option Command = if word (codes "exec") then exec_of ws else from10 in
+      let from12 : Option Command = if word (codes "sample") then sample_of ws else None in
+      let from11 : Option Command = if word (codes "pair") then pair_of ws else from12 in
+      let from10 : Option Command = if word (codes "exec") then exec_of ws else from11 in
+      let from9 : Option Command = if word (codes "measure") then measure_of ws else from10 in
       let from8 : Option Command = if word (codes "decrypt") then decrypt_of ws else from9 in
       let from7 : Option Command = if word (codes "run") then run_of ws else from8 in
       let from6 : Option Command = if word (codes "encrypt") then encrypt_of ws else from7 in
@@ -105,4 +111,5 @@ module _ (test : Option Command → Bool) (only : IsOfHeadlines test) where
       let e7 = passed (word (codes "encrypt")) (encrypt_of ws) from7 (not_encrypt ws) e6 in
       let e8 = passed (word (codes "run")) (run_of ws) from8 (not_run ws) e7 in
       let e9 = passed (word (codes "decrypt")) (decrypt_of ws) from9 (not_decrypt ws) e8 in
-      either (word (codes "exec")) (word (codes "pair")) (exec_of ws) (pair_of ws) from11 (not_sample (word (codes "sample")) ws) e9
+      let e10 = passed (word (codes "measure")) (measure_of ws) from10 (not_measure ws) e9 in
+      either (word (codes "exec")) (word (codes "pair")) (exec_of ws) (pair_of ws) from12 (not_sample (word (codes "sample")) ws) e10

@@ -19,9 +19,10 @@ use Rattle.heco_jobs.specs.declared.outcome.Refusal.TheVariants.{Usage}
 use Rattle.heco_exec.specs.Laws.{PrintsExecuted}
 use Rattle.heco_pair.specs.Laws.{PrintsPaired}
 use Rattle.heco_tasks.specs.Executions.{AreOutputs}
+use Rattle.heco_tasks.specs.MeasuredFiles.{PrintsMeasured, PrintsChainWithinBounds}
 use Rattle.heco_top.specs.Commands.{command_of, plan_of, job_of, asks}
 use Rattle.heco_top.specs.declared.command.Command.{Command}
-use Rattle.heco_top.specs.declared.command.Command.TheVariants.{Plain, Exec, Pair}
+use Rattle.heco_top.specs.declared.command.Command.TheVariants.{Plain, Measure, Exec, Pair}
 
 -- ---- over whatever outside
 
@@ -125,3 +126,21 @@ module _ (words : List (List ℕ)) where
   -- after Ok of `pair` the same of two rows of values, with a text for each
   abbrev pub PrintsPair : Outside → Outside → Outcome → Type 0
   PrintsPair old new outcome = PairedFor (command_of words) old new outcome
+
+  -- ---- measured noise
+
+  abbrev pub MeasuredFor : Option Command → Outside → Outside → Outcome → Type 0
+  MeasuredFor (Some Measure) old new Fine = PrintsMeasured words old new
+  MeasuredFor command old new outcome = Unit {0}
+
+  -- after Ok of `measure` standard output grew by the lines of what its files were read as
+  abbrev pub PrintsMeasure : Outside → Outside → Outcome → Type 0
+  PrintsMeasure old new outcome = MeasuredFor (command_of words) old new outcome
+
+  abbrev pub WithinFor : Option Command → Outside → Outside → Outcome → Type 0
+  WithinFor (Some Measure) old new Fine = PrintsChainWithinBounds words old new
+  WithinFor command old new outcome = Unit {0}
+
+  -- after Ok of `measure` on the files of one chain no noise that was printed is above its bound
+  abbrev pub PrintsWithinBounds : Outside → Outside → Outcome → Type 0
+  PrintsWithinBounds old new outcome = WithinFor (command_of words) old new outcome

@@ -10,9 +10,10 @@ use Rattle.heco_exec.specs.ExecTask.{exec_plan, exec_job}
 use Rattle.heco_pair.specs.PairTask.{pair_plan, pair_job}
 use Rattle.heco_sample.specs.SampleTask.{sample_plan, sample_job}
 use Rattle.heco_tasks.specs.CircuitTasks.{show_plan, draw_plan, keys_plan, encrypt_plan, run_plan, decrypt_plan, show_job, draw_job, keys_job, encrypt_job, run_job, decrypt_job}
+use Rattle.heco_tasks.specs.MeasureTask.{measure_plan, measure_job}
 use Rattle.heco_tasks.specs.SourceTasks.{plain_plan, plain_job, compile_plan, compile_job}
 use Rattle.heco_top.specs.declared.command.Command.{Command}
-use Rattle.heco_top.specs.declared.command.Command.TheVariants.{Plain, Compile, Show, Draw, Keys, Encrypt, Run, Decrypt, Exec, Pair, Sample}
+use Rattle.heco_top.specs.declared.command.Command.TheVariants.{Plain, Compile, Show, Draw, Keys, Encrypt, Run, Decrypt, Measure, Exec, Pair, Sample}
 use Rattle.heco_top.specs.Seeds.{seed_of}
 
 -- ---- the rows of words
@@ -60,6 +61,11 @@ abbrev pub decrypt_of : List (List ℕ) → Option Command
 decrypt_of (circuit ∷ secret ∷ results ∷ []) = where_distinct (circuit ∷ secret ∷ results ∷ []) (Some Decrypt)
 decrypt_of words = None
 
+-- measure CIR SEC EVA CTS
+abbrev pub measure_of : List (List ℕ) → Option Command
+measure_of (circuit ∷ secret ∷ evaluation ∷ ciphertexts ∷ []) = where_distinct (circuit ∷ secret ∷ evaluation ∷ ciphertexts ∷ []) (Some Measure)
+measure_of words = None
+
 -- exec SRC IN KMAT EMAT CIR SEC EVA CTS RES
 abbrev pub exec_of : List (List ℕ) → Option Command
 exec_of (source ∷ inputs ∷ keys ∷ material ∷ circuit ∷ secret ∷ evaluation ∷ ciphertexts ∷ results ∷ []) =
@@ -87,6 +93,7 @@ command_of (c ∷ rest) =
     if bytes_eq c (codes "encrypt") then encrypt_of rest else
     if bytes_eq c (codes "run") then run_of rest else
     if bytes_eq c (codes "decrypt") then decrypt_of rest else
+    if bytes_eq c (codes "measure") then measure_of rest else
     if bytes_eq c (codes "exec") then exec_of rest else
     if bytes_eq c (codes "pair") then pair_of rest else
     if bytes_eq c (codes "sample") then sample_of rest else None
@@ -103,6 +110,7 @@ plan_of Keys = keys_plan
 plan_of Encrypt = encrypt_plan
 plan_of Run = run_plan
 plan_of Decrypt = decrypt_plan
+plan_of Measure = measure_plan
 plan_of Exec = exec_plan
 plan_of Pair = pair_plan
 plan_of (Sample seed) = sample_plan
@@ -117,6 +125,7 @@ asks Keys = false
 asks Encrypt = false
 asks Run = true
 asks Decrypt = false
+asks Measure = false
 asks Exec = true
 asks Pair = true
 asks (Sample seed) = true
@@ -130,6 +139,7 @@ job_of agents Keys = keys_job agents
 job_of agents Encrypt = encrypt_job agents
 job_of agents Run = run_job agents
 job_of agents Decrypt = decrypt_job agents
+job_of agents Measure = measure_job agents
 job_of agents Exec = exec_job agents
 job_of agents Pair = pair_job agents
 job_of agents (Sample seed) = sample_job agents seed

@@ -2,7 +2,7 @@ ghost use Rattle.std.specs.Prelude.{◌≡◌};
 ghost use Rattle.std.specs.List.{list_any};
 ghost use Rattle.std.specs.Str.{bytes_eq};
 ghost use Rattle.heco_jobs.specs.Words.{texts, are_distinct};
-ghost use Rattle.heco_top.specs.Commands.{command_of, plain_of, compile_of, show_of, draw_of, keys_of, encrypt_of, run_of, decrypt_of, exec_of, pair_of, sample_of};
+ghost use Rattle.heco_top.specs.Commands.{command_of, plain_of, compile_of, show_of, draw_of, keys_of, encrypt_of, run_of, decrypt_of, measure_of, exec_of, pair_of, sample_of};
 
 use crate::seed::seed_of;
 
@@ -17,6 +17,7 @@ pub enum Command {
     Encrypt,
     Run,
     Decrypt,
+    Measure,
     Exec,
     Pair,
     Sample { seed: u64 },
@@ -156,6 +157,20 @@ fn decrypt_of(words: &[String]) -> Option<Command>
     }
 }
 
+// measure CIR SEC EVA CTS
+fn measure_of(words: &[String]) -> Option<Command>
+    ensures { result ≡ measure_of (texts words.now) }
+{
+    let [_, _, _, _] = words else {
+        return None;
+    };
+    if are_distinct(words) {
+        Some(Command::Measure)
+    } else {
+        None
+    }
+}
+
 // exec SRC IN KMAT EMAT CIR SEC EVA CTS RES
 fn exec_of(words: &[String]) -> Option<Command>
     ensures { result ≡ exec_of (texts words.now) }
@@ -226,6 +241,9 @@ pub fn command_of(words: &[String]) -> Option<Command>
     }
     if command == "decrypt" {
         return decrypt_of(rest);
+    }
+    if command == "measure" {
+        return measure_of(rest);
     }
     if command == "exec" {
         return exec_of(rest);

@@ -14,8 +14,8 @@ use heco_jobs::{Outcome, Product};
 use heco_outside::Store;
 use heco_sched::Picker;
 use heco_tasks::{
-    gather_compile, gather_decrypt, gather_draw, gather_encrypt, gather_keys, gather_plain,
-    gather_show,
+    gather_compile, gather_decrypt, gather_draw, gather_encrypt, gather_keys, gather_measure,
+    gather_plain, gather_show,
 };
 use std::alloc::Global;
 
@@ -42,6 +42,7 @@ pub fn gather<S: Store>(
         Command::Encrypt => gather_encrypt(alloc, words, store),
         Command::Run => gather_run(alloc, words, store, picker),
         Command::Decrypt => gather_decrypt(alloc, words, store),
+        Command::Measure => gather_measure(alloc, words, store),
         Command::Exec => gather_exec(alloc, words, store, picker),
         Command::Pair => gather_pair(alloc, words, store, picker),
         Command::Sample { seed } => gather_sample(alloc, seed, words, store, picker),

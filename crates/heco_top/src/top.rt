@@ -7,7 +7,7 @@ ghost use Rattle.heco_jobs.specs.Lines.{line_of, Reports};
 ghost use Rattle.heco_jobs.specs.Outsides.{outside};
 ghost use Rattle.heco_jobs.specs.Plans.{IsCause};
 ghost use Rattle.heco_jobs.specs.Words.{texts};
-ghost use Rattle.heco_top.specs.Answers.{HasCause, Untouched, PickerLeft, Ends, FollowsPlan, DoneIfOk, PrintsPlain, PrintsExec, PrintsPair, IsClearIn, IsReadyIn};
+ghost use Rattle.heco_top.specs.Answers.{HasCause, Untouched, PickerLeft, Ends, FollowsPlan, DoneIfOk, PrintsPlain, PrintsExec, PrintsPair, PrintsMeasure, PrintsWithinBounds, IsClearIn, IsReadyIn};
 ghost use Rattle.heco_top.specs.Commands.{command_of, plan_of, job_of, asks};
 
 use crate::command::{Command, command_of};
@@ -114,6 +114,14 @@ pub fn heco<S: Store, O: Sink, E: Sink>(
     // those of IN in the first row and those of IN2 in the second, and RES is by the written formulas; every other file stands; and standard output grew by
     // what decrypting RES prints of the first row, which is the text of the source's execution on IN, the line `--`, and the same of the second row and IN2
     ensures pair { IsTrue S.tells → IsTrue O.tells → PrintsPair (texts words.now) (outside S.Store O.Sink store.old out.old) (outside S.Store O.Sink store.new out.new) result }
+
+    // where `measure` is done: CIR, SEC, EVA and CTS were read as a circuit, both keys and ciphertexts of its inputs, and EVA has every key that it needs; and
+    // standard output grew by exactly a line for each wire of the circuit's run: the wire, its noise under SEC, and its written bound
+    ensures measure { IsTrue S.tells → IsTrue O.tells → PrintsMeasure (texts words.now) (outside S.Store O.Sink store.old out.old) (outside S.Store O.Sink store.new out.new) result }
+
+    // and where SEC and EVA are the files of `keys` for CIR, and CTS is that of `encrypt`, `exec` or `pair`, by material within bounds, no noise that was
+    // printed is above its bound
+    ensures within { IsTrue S.tells → IsTrue O.tells → PrintsWithinBounds (texts words.now) (outside S.Store O.Sink store.old out.old) (outside S.Store O.Sink store.new out.new) result }
 
     // after Ok nothing went to `err`
     ensures silent { IsTrue E.tells → result ≡ Outcome.Ok → E.taken err.new ≡ E.taken err.old }

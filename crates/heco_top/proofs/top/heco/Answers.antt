@@ -4,6 +4,7 @@ use Rattle.heco_jobs.specs.Words.{texts}
 use Rattle.std.proofs.Common.{ℕ, List, [], ◌∷◌}
 use Rattle.heco_top.specs.Commands.{command_of}
 use Rattle.heco_top.proofs.ExecLaws.{done_executed, words_apart, ok_is_silent}
+use Rattle.heco_top.proofs.MeasureLaws.{done_measured, done_within}
 use Rattle.heco_top.proofs.PairLaws.{done_paired, pair_words_apart}
 use Rattle.heco_top.proofs.PlainLaws.{done_printed}
 use Rattle.heco_top.proofs.TopLaws.{ends_as_planned, ends_standing, ends_done, ends_done_as_owed, ready_clear, no_fault}
@@ -43,6 +44,14 @@ returns-clause-headline g c = λ told told_out.
 pub returns-clause-pair : goal.returns-clause-pair
 returns-clause-pair g c = λ told told_out.
     done_paired (texts c.args.words.now) _ _ _ _ (command_of (texts c.args.words.now)) c.answer-outcome.result (pair_words_apart (texts c.args.words.now)) (returns-clause-done g c told told_out)
+
+pub returns-clause-measure : goal.returns-clause-measure
+returns-clause-measure g c = λ told told_out.
+    done_measured (texts c.args.words.now) _ _ _ _ (command_of (texts c.args.words.now)) c.answer-outcome.result (returns-clause-done g c told told_out)
+
+pub returns-clause-within : goal.returns-clause-within
+returns-clause-within g c = λ told told_out.
+    done_within (texts c.args.words.now) _ _ _ _ (command_of (texts c.args.words.now)) c.answer-outcome.result (returns-clause-done g c told told_out)
 
 pub returns-clause-silent : goal.returns-clause-silent
 returns-clause-silent g c = λ told is.
