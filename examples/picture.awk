@@ -17,6 +17,8 @@ $1 == "params" { params = $2; next }
 
 $1 == "in" { label[wires] = $2; kind[wires] = "in"; bound[wires] = fresh[params]; depth[wires++] = 0; next }
 
+$1 == "vector" { next }
+
 $1 == "out" { title[outs] = $2; cut_into_runs(outs++); next }
 
 # WIRE KIND CONSTANT OPERAND .. : BOUND

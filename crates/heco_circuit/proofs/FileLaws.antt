@@ -1,18 +1,17 @@
 -- What a circuit file is read as, from the laws of its format.
-use Rattle.std.proofs.Common.{◌≡◌, ℕ, zero, suc, ◌+◌, ◌-◌, ◌^◌, ◌<◌, ◌≤◌, Bool, true, false, cond, ◌&&◌, leb, ltb, eqb, List, [], ◌∷◌, ◌++◌, length, take, drop, Option, Some, None, Result, Ok, Err, refl, sym, ap, subst, ◌∙◌, append_assoc, arith, inl, inr, ◌⊎◌}
+use Rattle.std.proofs.Common.{◌≡◌, ℕ, ◌≤◌, List, ◌++◌, length, take, drop, Option, Some, None, Result, Ok, Err, refl, sym, ap, subst, ◌∙◌, arith}
 use Rattle.std.specs.Prelude.{IsTrue}
 use Rattle.std.specs.Option.{is_none}
-use Rattle.std.proofs.lemmas.Bool.{eqb-true, leb-true, le-leb}
-use Rattle.std.proofs.lemmas.List.{append-nil, nil_from_length, length-append, length-take, length-drop, take-append-drop, take_at, drop_at}
-use Rattle.heco_fields.specs.Formats.{BreaksAt}
-use Rattle.heco_fields.specs.Readings.{Reading, reading, judged}
+use Rattle.std.proofs.lemmas.Bool.{leb-true, le-leb}
+use Rattle.std.proofs.lemmas.List.{append-nil, length-append, length-drop, take-append-drop}
+use Rattle.heco_fields.specs.Readings.{reading, judged}
 use Rattle.heco_fields.proofs.FirstBroken.{judged_breaks, breaks_judged}
-use Rattle.heco_fields.proofs.Laws.{IsBytes, Law}
+use Rattle.heco_fields.proofs.Laws.{IsBytes}
 use Rattle.heco_fields.proofs.FileLaws.{take_all, drop_all, judged_text, text_judged}
 use Rattle.heco_circuit.specs.declared.error.CirErr.{CirErr}
 use Rattle.heco_circuit.specs.declared.error.CirErr.TheVariants.{Malformed, Noisy, Memory}
 use Rattle.heco_circuit.specs.Plans.{Plan, is_formed}
-use Rattle.heco_circuit.specs.Circuits.{IsCircuit, passing, most, is_short}
+use Rattle.heco_circuit.specs.Circuits.{passing, most, is_short}
 use Rattle.heco_circuit.specs.CircuitFormat.{circuit, circuit_text}
 use Rattle.heco_circuit.specs.CircuitFile.{FileBreaksAt, IsNoisyFile, Spells, HasCause, Answers, noted, answer_to, judged_file}
 use Rattle.heco_circuit.proofs.CircuitLaw.{IsPlan, circuit_law}

@@ -1,5 +1,6 @@
 pub mod GateLaws
 pub mod PortLaws
+pub mod VectorLaws
 pub mod CircuitLaw
 pub mod Formed
 pub mod Sizes

@@ -1,13 +1,12 @@
 -- What is read of inputs and outputs is what was spelled.
-use Rattle.std.proofs.Common.{◌≡◌, ℕ, zero, suc, ◌+◌, ◌-◌, ◌^◌, ◌<◌, ◌≤◌, Bool, true, false, cond, ◌&&◌, leb, ltb, eqb, List, [], ◌∷◌, ◌++◌, length, refl, sym, ap, subst, ◌∙◌, append_assoc, arith, inl, inr, ◌⊎◌}
-use Rattle.std.specs.Prelude.{IsTrue, not}
-use Rattle.std.specs.List.{flat_map, list_any, list_all}
+use Rattle.std.proofs.Common.{◌≡◌, ℕ, zero, suc, ◌-◌, ◌^◌, ◌<◌, cond, leb, eqb, List, [], ◌++◌, length, refl, sym, ap, subst, ◌∙◌, append_assoc, arith}
+use Rattle.std.specs.Prelude.{IsTrue}
+use Rattle.std.specs.List.{flat_map}
 use Rattle.std.specs.Int.{w8, w16, w32, to_be_bytes}
 use Rattle.std.proofs.lemmas.List.{append-nil}
-use Rattle.std.proofs.lemmas.Bool.{eqb-true, leb-true}
+use Rattle.std.proofs.lemmas.Bool.{leb-true}
 use Rattle.heco_nums.specs.declared.shape.Shape.{Shape}
-use Rattle.heco_nums.specs.Words.{is_word}
-use Rattle.heco_fields.specs.Formats.{Format, Value, Field, number, within, many, ◌>>=◌ as ◌then◌}
+use Rattle.heco_fields.specs.Formats.{Value, Field, within, many, ◌>>=◌ as ◌then◌}
 use Rattle.heco_fields.proofs.Laws.{Law, value_law, then_law, same_law}
 use Rattle.heco_fields.specs.Runs.{FitAlong, stays}
 use Rattle.heco_fields.proofs.FieldLaws.{bytes_law, number_law, wide8, wide16, wide32}
@@ -16,7 +15,7 @@ use Rattle.heco_circuit.specs.declared.gate.Cell.{Cell}
 use Rattle.heco_circuit.specs.declared.gate.Cell.TheVariants.{Number, Slot}
 use Rattle.heco_circuit.specs.declared.gate.Output.{Output}
 use Rattle.heco_circuit.specs.Validity.{has_parts, is_between}
-use Rattle.heco_circuit.specs.Plans.{is_new, names_input, names_output, push, is_cell}
+use Rattle.heco_circuit.specs.Plans.{is_new, is_cell}
 use Rattle.heco_circuit.specs.GateFormat.{wire_of}
 use Rattle.heco_fields.proofs.Bools.{both_true, and_true}
 use Rattle.heco_circuit.specs.CircuitFormat.{name, input, number_cell, slot_cell, cell, output, name_text, input_text, cell_text, output_text}

@@ -1,5 +1,5 @@
 -- What a circuit file is read as.
-use Rattle.std.specs.Prelude.{◌≡◌, ℕ, ◌-◌, ◌^◌, ◌≤◌, List, [], length, take, drop, Option, Some, None, Result, Ok, Err, IsTrue, ◌⊎◌}
+use Rattle.std.specs.Prelude.{◌≡◌, ℕ, ◌≤◌, List, length, take, drop, Option, Some, None, Result, Ok, Err, IsTrue}
 use Rattle.heco_fields.specs.Formats.{BreaksAt}
 use Rattle.heco_fields.specs.Readings.{reading, judged}
 use Rattle.heco_circuit.specs.declared.error.CirErr.{CirErr}

@@ -14,6 +14,7 @@ use Rattle.heco_circuit.specs.declared.gate.Output.{Output}
 use Rattle.heco_circuit.specs.Validity.{is_between, with_gate}
 use Rattle.heco_circuit.specs.Versions.{newest, version_of}
 use Rattle.heco_circuit.specs.GateFormat.{wire_of, gate, gate_text}
+use Rattle.heco_circuit.specs.VectorFormat.{vectors, vectors_text}
 use Rattle.heco_circuit.specs.Plans.{Plan, is_new, push, input_parts}
 
 -- its length, and its bytes
@@ -56,30 +57,35 @@ inputs id = do
   count ← within w16 0 256
   many (input (slots_of id)) push count []
 
-unfoldable pub gates : ℕ → ℕ → List ℕ → Format (List Gate)
-gates version id parts = do
+unfoldable pub gates : ℕ → ℕ → ℕ → List ℕ → Format (List Gate)
+gates version id vectors parts = do
   count ← within w32 0 (2 ^ 25 - 1)
-  many (gate version (modulus_of id) (slots_of id)) with_gate count parts
+  many (gate version (modulus_of id) (slots_of id) vectors) with_gate count parts
 
--- here the gates are known: the version is theirs, or this field is broken
-abbrev pub is_output_count : ℕ → List Shape → List Gate → ℕ → Bool
-is_output_count version inputs gates count = version == version_of gates && is_between 0 (256 - length inputs) count
+-- here the vectors and the gates are known: the version is theirs, or this field is broken
+abbrev pub is_output_count : ℕ → List Shape → List (List ℕ) → List Gate → ℕ → Bool
+is_output_count version inputs vectors gates count = version == version_of vectors gates && is_between 0 (256 - length inputs) count
 
-unfoldable pub outputs : ℕ → ℕ → List Shape → List Gate → List ℕ → Format (List Output)
-outputs version id inputs gates parts = do
-  count ← number w16 (is_output_count version inputs gates)
+unfoldable pub outputs : ℕ → ℕ → List Shape → List (List ℕ) → List Gate → List ℕ → Format (List Output)
+outputs version id inputs vectors gates parts = do
+  count ← number w16 (is_output_count version inputs vectors gates)
   many (output (modulus_of id) (slots_of id) inputs parts) push count []
 
+abbrev pub plan_with : ℕ → List Shape → List (List ℕ) → List Gate → List Output → Plan
+plan_with id i v g o = record { preset = id; inputs = i; vectors = v; gates = g; outputs = o }
+
+-- without vectors
 abbrev pub plan : ℕ → List Shape → List Gate → List Output → Plan
-plan id i g o = record { preset = id; inputs = i; gates = g; outputs = o }
+plan id i g o = plan_with id i [] g o
 
 unfoldable pub circuit : Format Plan
 circuit = do
   h ← versioned newest (codes "HCIR")
   i ← inputs h.preset
-  g ← gates h.version h.preset (input_parts i)
-  o ← outputs h.version h.preset i g (along with_gate (input_parts i) g)
-  Value (plan h.preset i g o)
+  v ← vectors h.version h.preset
+  g ← gates h.version h.preset (length v) (input_parts i)
+  o ← outputs h.version h.preset i v g (along with_gate (input_parts i) g)
+  Value (plan_with h.preset i v g o)
 
 abbrev pub name_text : List ℕ → List ℕ
 name_text text = to_be_bytes w32 (length text) ++ text
@@ -105,8 +111,8 @@ abbrev pub outputs_text : List Output → List ℕ
 outputs_text xs = to_be_bytes w16 (length xs) ++ flat_map output_text xs
 
 abbrev pub header_of : Plan → Header
-header_of p = record { version = version_of p.gates; preset = p.preset }
+header_of p = record { version = version_of p.vectors p.gates; preset = p.preset }
 
 -- the one spelling of a circuit
 abbrev pub circuit_text : Plan → List ℕ
-circuit_text p = versioned_text (codes "HCIR") (header_of p) ++ (inputs_text p.inputs ++ (gates_text p.gates ++ outputs_text p.outputs))
+circuit_text p = versioned_text (codes "HCIR") (header_of p) ++ (inputs_text p.inputs ++ (vectors_text p.vectors ++ (gates_text p.gates ++ outputs_text p.outputs)))

@@ -1,13 +1,13 @@
 -- When a circuit is valid.
-use Rattle.std.specs.Prelude.{ℕ, ◌-◌, ◌^◌, Bool, Option, List, length, nat_le, IsTrue}
+use Rattle.std.specs.Prelude.{ℕ, ◌-◌, ◌^◌, Bool, Option, length, nat_le, IsTrue}
 use Rattle.std.specs.Option.{is_none}
-use Rattle.heco_circuit.specs.Bounds.{fresh_bounds, first_passing}
+use Rattle.heco_circuit.specs.Bounds.{fresh_bounds, weights_of, first_passing}
 use Rattle.heco_circuit.specs.Plans.{Plan, is_formed}
 use Rattle.heco_circuit.specs.CircuitFormat.{circuit_text}
 
 -- the first gate whose bound passes, and its bound
 abbrev pub passing : Plan → Option (ℕ × ℕ)
-passing p = first_passing p.preset 0 (fresh_bounds p.preset p.inputs) p.gates
+passing p = first_passing p.preset (weights_of p.preset p.vectors) 0 (fresh_bounds p.preset p.inputs) p.gates
 
 abbrev pub is_quiet : Plan → Bool
 is_quiet p = is_none (passing p)

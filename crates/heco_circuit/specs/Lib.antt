@@ -3,6 +3,7 @@ pub mod Versions
 pub mod Bounds
 pub mod Plans
 pub mod GateFormat
+pub mod VectorFormat
 pub mod CircuitFormat
 pub mod Circuits
 pub mod Needs

@@ -1,5 +1,5 @@
 -- What a circuit says, and when it is valid.
-use Rattle.std.specs.Prelude.{ℕ, ◌+◌, ◌-◌, ◌^◌, Bool, true, ◌&&◌, ◌||◌, ◌==◌, not, List, [], ◌∷◌, ◌++◌, length, nat_lt, nat_le, IsTrue}
+use Rattle.std.specs.Prelude.{ℕ, ◌-◌, ◌^◌, Bool, ◌&&◌, ◌==◌, not, List, [], ◌∷◌, ◌++◌, length, nat_le}
 use Rattle.std.specs.List.{list_any, list_all}
 use Rattle.std.specs.Str.{bytes_eq}
 use Rattle.heco_nums.specs.Presets.{modulus_of, slots_of}
@@ -16,6 +16,7 @@ use Rattle.heco_circuit.specs.Validity.{is_between, has_parts, is_gate, with_gat
 pub record Plan : Type 0 where
   pub preset : ℕ
   pub inputs : List Shape
+  pub vectors : List (List ℕ)
   pub gates : List Gate
   pub outputs : List Output
 
@@ -62,12 +63,19 @@ wire_parts p = along with_gate (input_parts p.inputs) p.gates
 abbrev pub are_inputs : Plan → Bool
 are_inputs p = nat_le (length p.inputs) 256 && all_along (is_input (slots_of p.preset)) push [] p.inputs
 
+-- N numbers below t
+abbrev pub is_vector : ℕ → ℕ → List ℕ → Bool
+is_vector t slots v = length v == slots && list_all (is_between 0 (t - 1)) v
+
+abbrev pub are_vectors : Plan → Bool
+are_vectors p = nat_le (length p.vectors) 256 && list_all (is_vector (modulus_of p.preset) (slots_of p.preset)) p.vectors
+
 abbrev pub are_gates : Plan → Bool
-are_gates p = nat_le (length p.gates) (2 ^ 25 - 1) && all_along (is_gate (modulus_of p.preset) (slots_of p.preset)) with_gate (input_parts p.inputs) p.gates
+are_gates p = nat_le (length p.gates) (2 ^ 25 - 1) && all_along (is_gate (modulus_of p.preset) (slots_of p.preset) (length p.vectors)) with_gate (input_parts p.inputs) p.gates
 
 abbrev pub are_outputs : Plan → Bool
 are_outputs p = nat_le (length p.outputs) (256 - length p.inputs) && all_along (is_output (modulus_of p.preset) (slots_of p.preset) p.inputs (wire_parts p)) push [] p.outputs
 
 -- names, lengths, counts and numbers, and the order, the parts and the ranges of each gate
 abbrev pub is_formed : Plan → Bool
-is_formed p = is_between 1 5 p.preset && (are_inputs p && (are_gates p && are_outputs p))
+is_formed p = is_between 1 5 p.preset && (are_inputs p && (are_vectors p && (are_gates p && are_outputs p)))

@@ -1,4 +1,4 @@
-ghost use Rattle.std.specs.Prelude.{◌≡◌};
+ghost use Rattle.std.specs.Prelude.{◌≡◌, []};
 ghost use Rattle.heco_circuit.specs.Circuits.{IsCircuit};
 
 use crate::gate::{Gate, Output};
@@ -10,6 +10,7 @@ use std::marker::Model;
 pub struct Circuit {
     preset: Preset,
     inputs: List<Shape>,
+    vectors: List<List<u32>>,
     gates: List<Gate>,
     outputs: List<Output>,
 }
@@ -17,19 +18,49 @@ pub struct Circuit {
 impl Model for Circuit {
     ghost use Rattle.heco_circuit.specs.Plans.{Plan};
     ghost use Rattle.heco_circuit.specs.Circuits.{IsCircuit};
-    ghost use Rattle.heco_circuit.specs.CircuitFormat.{plan};
+    ghost use Rattle.heco_circuit.specs.CircuitFormat.{plan_with};
 
     ghost Value = { Plan };
 
-    ghost view = { λ c. plan c.preset.id c.inputs c.gates c.outputs };
+    ghost view = { λ c. plan_with c.preset.id c.inputs c.vectors c.gates c.outputs };
 
-    ghost invariant = { λ c. IsCircuit (plan c.preset.id c.inputs c.gates c.outputs) };
+    ghost invariant = { λ c. IsCircuit (plan_with c.preset.id c.inputs c.vectors c.gates c.outputs) };
+}
+
+// The gates, and no vectors: an empty list needs an allocator, but no memory.
+fn with_no_vectors(gates: List<Gate>) -> (List<Gate>, List<List<u32>>)
+    ensures gates { result.0 ≡ gates }
+    ensures vectors { result.1 ≡ [] }
+{
+    let items = gates.into_vec();
+    let vectors = List::new(*items.allocator());
+    (List::from_vec(items), vectors)
 }
 
 impl Circuit {
-    ghost use Rattle.heco_circuit.specs.CircuitFormat.{plan};
+    ghost use Rattle.heco_circuit.specs.CircuitFormat.{plan, plan_with};
 
-    /// The circuit of these inputs, gates and outputs under a preset, which together are valid.
+    /// The circuit of these inputs, plain vectors, gates and outputs under a preset, which together are valid.
+    pub fn make_with(
+        p: &Preset,
+        inputs: List<Shape>,
+        vectors: List<List<u32>>,
+        gates: List<Gate>,
+        outputs: List<Output>,
+    ) -> Circuit
+        requires { IsCircuit (plan_with p.now.id inputs vectors gates outputs) }
+        ensures { result ≡ plan_with p.now.id inputs vectors gates outputs }
+    {
+        Circuit {
+            preset: *p,
+            inputs,
+            vectors,
+            gates,
+            outputs,
+        }
+    }
+
+    /// The same without vectors.
     pub fn make(
         p: &Preset,
         inputs: List<Shape>,
@@ -39,12 +70,8 @@ impl Circuit {
         requires { IsCircuit (plan p.now.id inputs gates outputs) }
         ensures { result ≡ plan p.now.id inputs gates outputs }
     {
-        Circuit {
-            preset: *p,
-            inputs,
-            gates,
-            outputs,
-        }
+        let (gates, vectors) = with_no_vectors(gates);
+        Circuit::make_with(p, inputs, vectors, gates, outputs)
     }
 
     /// The parameters that it is for.
@@ -60,6 +87,13 @@ impl Circuit {
         ensures { result.now ≡ self.now.inputs }
     {
         &self.inputs
+    }
+
+    /// The plain vectors that gates weigh by, N numbers below t each.
+    pub fn vectors(&self) -> &List<List<u32>>
+        ensures { result.now ≡ self.now.vectors }
+    {
+        &self.vectors
     }
 
     /// The gates, each of which gives the next wire.

@@ -12,8 +12,10 @@ mod quiet;
 mod read_gate;
 mod read_gates;
 mod read_ports;
+mod read_vectors;
 mod reading;
 mod version;
+mod weights;
 mod writing;
 
 pub use circuit::Circuit;

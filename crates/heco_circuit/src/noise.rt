@@ -1,9 +1,9 @@
 ghost use Rattle.std.specs.Prelude.{◌≡◌, All, IsTrue, slice_index};
 ghost use Rattle.heco_noise.specs.Rows.{IsQuiet};
-ghost use Rattle.heco_circuit.specs.Bounds.{bound_of, is_below};
+ghost use Rattle.heco_circuit.specs.Bounds.{bound_of, is_below, IsLight};
 
 use crate::gate::Gate;
-use heco_noise::{added, multiplied, scaled_by, shifted, turned};
+use heco_noise::{added, multiplied, scaled_by, shifted, turned, weighed};
 use heco_nums::Preset;
 
 fn bound_at(bounds: &[u128], wire: u32) -> u128
@@ -17,11 +17,23 @@ fn bound_at(bounds: &[u128], wire: u32) -> u128
     }
 }
 
-/// The written bound of a gate behind wires of these bounds.
-pub fn bound_of(p: &Preset, bounds: &[u128], gate: Gate) -> u128
+fn weight_at(weights: &[u64], vector: u32) -> u64
+    requires { All IsLight weights.now }
+    ensures value { result ≡ slice_index weights.now vector }
+    ensures light { IsLight result }
+{
+    match weights.get(vector as usize) {
+        Some(s) => *s,
+        None => 0,
+    }
+}
+
+/// The written bound of a gate behind wires of these bounds, where the vectors have these weights.
+pub fn bound_of(p: &Preset, weights: &[u64], bounds: &[u128], gate: Gate) -> u128
     requires constant { IsTrue (is_below p.now.t gate) }
+    requires light { All IsLight weights.now }
     requires quiet { All IsQuiet bounds.now }
-    ensures { result ≡ bound_of p.now.id bounds.now gate }
+    ensures { result ≡ bound_of p.now.id weights.now bounds.now gate }
 {
     match gate {
         Gate::Neg { a } => bound_at(bounds, a),
@@ -30,5 +42,6 @@ pub fn bound_of(p: &Preset, bounds: &[u128], gate: Gate) -> u128
         Gate::Relin { a } | Gate::Turn { r: _, a } => turned(p, bound_at(bounds, a)),
         Gate::Scale { c, a } => scaled_by(p, c, bound_at(bounds, a)),
         Gate::Shift { c: _, a } => shifted(p, bound_at(bounds, a)),
+        Gate::Weigh { v, a } => weighed(weight_at(weights, v), bound_at(bounds, a)),
     }
 }

@@ -1,14 +1,15 @@
 ghost use Rattle.std.specs.Prelude.{◌≡◌, ◌<◌, ◌^◌, All, IsTrue, IfOk, length};
 ghost use Rattle.std.specs.List.{list_all};
 ghost use Rattle.heco_noise.specs.Rows.{IsQuiet};
-ghost use Rattle.heco_circuit.specs.Bounds.{fresh_of, fresh_bounds, wire_bounds, is_below};
+ghost use Rattle.heco_circuit.specs.Bounds.{fresh_of, fresh_bounds, weights_of, wire_bounds, is_below, IsLight};
 ghost use Rattle.heco_circuit.specs.Noises.{IsNoise};
 ghost use Rattle.heco_circuit.specs.Circuits.{IsCircuit};
-ghost use Rattle.heco_circuit.specs.Plans.{Plan};
+ghost use Rattle.heco_circuit.specs.Plans.{Plan, is_vector};
 
 use crate::circuit::Circuit;
 use crate::gate::Gate;
 use crate::noise::bound_of;
+use crate::weights::weights_of;
 use heco_noise::{fresh, passes};
 use heco_nums::{List, Memory, Preset, Shape};
 use std::alloc::Global;
@@ -41,22 +42,24 @@ fn fresh_bounds(alloc: Global, p: &Preset, inputs: &[Shape]) -> Result<List<u128
     Ok(bounds)
 }
 
-/// The bound of each wire in turn, until one passes.
-pub fn noise_of(
+/// The bound of each wire in turn, until one passes, where the vectors have these weights.
+fn noise_under(
     alloc: Global,
     p: &Preset,
+    weights: &[u64],
     inputs: &[Shape],
     gates: &[Gate],
 ) -> Result<Noise, Memory>
+    requires light { All IsLight weights.now }
     requires constants { IsTrue (list_all (is_below p.now.t) gates.now) }
     requires few { length gates.now < 2 ^ 25 }
-    ensures { IfOk result (IsNoise p.now.id inputs.now gates.now) }
+    ensures { IfOk result (IsNoise p.now.id weights.now inputs.now gates.now) }
 {
     let mut bounds = fresh_bounds(alloc, p, inputs)?;
     let mut number = 0u32;
     let mut rest = gates;
     while let [gate, after @ ..] = rest {
-        let bound = bound_of(p, bounds.as_slice(), *gate);
+        let bound = bound_of(p, weights, bounds.as_slice(), *gate);
         if passes(bound) {
             return Ok(Noise::Passing {
                 gate: number,
@@ -70,14 +73,32 @@ pub fn noise_of(
     Ok(Noise::Quiet(bounds))
 }
 
+/// The same for these vectors.
+pub fn noise_of(
+    alloc: Global,
+    p: &Preset,
+    inputs: &[Shape],
+    vectors: &[List<u32>],
+    gates: &[Gate],
+) -> Result<Noise, Memory>
+    requires constants { IsTrue (list_all (is_below p.now.t) gates.now) }
+    requires vectors { IsTrue (list_all (is_vector p.now.t p.now.slots) vectors.now) }
+    requires few { length gates.now < 2 ^ 25 }
+    ensures { IfOk result (IsNoise p.now.id (weights_of p.now.id vectors.now) inputs.now gates.now) }
+{
+    let weights = weights_of(alloc, p, vectors)?;
+    noise_under(alloc, p, weights.as_slice(), inputs, gates)
+}
+
 /// The written bound of each wire, the inputs first.
 pub fn bounds(alloc: Global, c: &Circuit) -> Result<List<u128>, Memory>
-    ensures { IfOk result (λ bounds. bounds ≡ wire_bounds c.now.preset c.now.inputs c.now.gates) }
+    ensures { IfOk result (λ bounds. bounds ≡ wire_bounds c.now.preset (weights_of c.now.preset c.now.vectors) c.now.inputs c.now.gates) }
 {
     let noise = noise_of(
         alloc,
         c.preset(),
         c.inputs().as_slice(),
+        c.vectors().as_slice(),
         c.gates().as_slice(),
     )?;
     match noise {
@@ -87,7 +108,6 @@ pub fn bounds(alloc: Global, c: &Circuit) -> Result<List<u128>, Memory>
 }
 
 /// No bound of a valid circuit passes.
-#[tactic(auto, using(crate::proofs::QuietLaw::quiet_law))]
 pub fn valid_circuits_are_quiet()
-    ensures { (p : Plan) → IsCircuit p → All IsQuiet (wire_bounds p.preset p.inputs p.gates) }
+    ensures { (p : Plan) → IsCircuit p → All IsQuiet (wire_bounds p.preset (weights_of p.preset p.vectors) p.inputs p.gates) }
 {}

@@ -25,7 +25,10 @@ pub fn parts_of(parts: &[u8], gate: Gate) -> u8
     ensures { result ≡ parts_of parts.now gate }
 {
     match gate {
-        Gate::Neg { a } | Gate::Scale { c: _, a } | Gate::Shift { c: _, a } => part_count(parts, a),
+        Gate::Neg { a }
+        | Gate::Scale { c: _, a }
+        | Gate::Shift { c: _, a }
+        | Gate::Weigh { v: _, a } => part_count(parts, a),
         Gate::Add { a, b } | Gate::Sub { a, b } => {
             part_count(parts, a).max(part_count(parts, b))
         }
@@ -34,26 +37,27 @@ pub fn parts_of(parts: &[u8], gate: Gate) -> u8
     }
 }
 
-/// So many gates of a file of this version, behind wires of these parts, and the parts of all wires.
+/// So many gates of a file of this version with so many vectors, behind wires of these parts, and the parts of all wires.
 pub fn gates_at<'a>(
     alloc: Global,
     version: u8,
     t: u32,
     slots: u16,
+    vectors: u32,
     inputs: List<u8>,
     count: u32,
     bytes: &'a [u8],
 ) -> Result<((List<Gate>, List<u8>), &'a [u8]), Fault>
     requires modulus { 1 ≤ t }
     requires row { 1 ≤ slots }
-    ensures gates { Gives (λ x. (x.0.0, x.1.now)) result (reading (many (gate version t slots) with_gate count inputs) bytes.now) }
+    ensures gates { Gives (λ x. (x.0.0, x.1.now)) result (reading (many (gate version t slots vectors) with_gate count inputs) bytes.now) }
     ensures parts { IfOk result (λ x. x.0.1 ≡ along with_gate inputs x.0.0) }
 {
     let mut gates = List::new(alloc);
     let mut parts = inputs;
     let mut rest = bytes;
     for _ in 0..count {
-        let (gate, after) = gate_at(version, t, slots, parts.as_slice(), rest)?;
+        let (gate, after) = gate_at(version, t, slots, vectors, parts.as_slice(), rest)?;
         parts.push(parts_of(parts.as_slice(), gate))?;
         gates.push(gate)?;
         rest = after;

@@ -3,7 +3,7 @@ ghost use Rattle.std.specs.Result.{result_map_both};
 ghost use Rattle.heco_circuit.specs.declared.error.CirErr.TheVariants.{Malformed, Noisy};
 ghost use Rattle.heco_fields.specs.Readings.{judged, reading};
 ghost use Rattle.heco_circuit.specs.Plans.{Plan};
-ghost use Rattle.heco_circuit.specs.CircuitFormat.{plan, circuit};
+ghost use Rattle.heco_circuit.specs.CircuitFormat.{plan_with, circuit};
 ghost use Rattle.heco_circuit.specs.Circuits.{IsCircuit, most};
 ghost use Rattle.heco_circuit.specs.CircuitFile.{FileBreaksAt, IsNoisyFile, Spells, HasCause, Answers, Drafts, judged_file, answer_to, read_as};
 
@@ -31,7 +31,7 @@ fn cut(bytes: &[u8]) -> (&[u8], &[u8])
 
 fn draft_within(alloc: Global, head: &[u8], beyond: &[u8]) -> Result<Draft, CirErr>
     requires { length head.now ≤ most }
-    ensures { Drafts (result_map_both (λ d. plan d.preset.id d.inputs d.gates d.outputs) (λ e. e) result) (judged head.now beyond.now (reading circuit head.now)) }
+    ensures { Drafts (result_map_both (λ d. plan_with d.preset.id d.inputs d.vectors d.gates d.outputs) (λ e. e) result) (judged head.now beyond.now (reading circuit head.now)) }
 {
     match draft_at(alloc, head) {
         Ok((draft, rest)) => {
@@ -50,23 +50,24 @@ fn draft_within(alloc: Global, head: &[u8], beyond: &[u8]) -> Result<Draft, CirE
 }
 
 fn draft_of(alloc: Global, bytes: &[u8]) -> Result<Draft, CirErr>
-    ensures { Drafts (result_map_both (λ d. plan d.preset.id d.inputs d.gates d.outputs) (λ e. e) result) (judged_file bytes.now) }
+    ensures { Drafts (result_map_both (λ d. plan_with d.preset.id d.inputs d.vectors d.gates d.outputs) (λ e. e) result) (judged_file bytes.now) }
 {
     let (head, beyond) = cut(bytes);
     draft_within(alloc, head, beyond)
 }
 
 fn circuit_of(draft: Draft) -> Circuit
-    requires { IsCircuit (plan draft.preset.id draft.inputs draft.gates draft.outputs) }
-    ensures { result ≡ plan draft.preset.id draft.inputs draft.gates draft.outputs }
+    requires { IsCircuit (plan_with draft.preset.id draft.inputs draft.vectors draft.gates draft.outputs) }
+    ensures { result ≡ plan_with draft.preset.id draft.inputs draft.vectors draft.gates draft.outputs }
 {
     let Draft {
         preset,
         inputs,
+        vectors,
         gates,
         outputs,
     } = draft;
-    Circuit::make(&preset, inputs, gates, outputs)
+    Circuit::make_with(&preset, inputs, vectors, gates, outputs)
 }
 
 fn read_exactly(alloc: Global, bytes: &[u8]) -> Result<Circuit, CirErr>
@@ -77,6 +78,7 @@ fn read_exactly(alloc: Global, bytes: &[u8]) -> Result<Circuit, CirErr>
         alloc,
         &draft.preset,
         draft.inputs.as_slice(),
+        draft.vectors.as_slice(),
         draft.gates.as_slice(),
     )? {
         Noise::Passing { gate, bound } => Err(CirErr::Noisy { gate, bound }),

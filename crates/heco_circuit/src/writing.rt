@@ -2,13 +2,14 @@ ghost use Rattle.std.specs.Prelude.{◌≡◌, ◌++◌, length, OnOk, IfOk};
 ghost use Rattle.std.specs.List.{flat_map};
 ghost use Rattle.std.specs.Int.{w8, w16, w32, to_be_bytes};
 ghost use Rattle.heco_circuit.specs.GateFormat.{gate_text};
+ghost use Rattle.heco_circuit.specs.VectorFormat.{vector_text, vectors_text};
 ghost use Rattle.heco_circuit.specs.CircuitFormat.{name_text, input_text, cell_text, output_text, inputs_text, gates_text, outputs_text, circuit_text};
 
 use crate::circuit::Circuit;
 use crate::gate::{Cell, Gate, Output};
 use crate::version::version_of;
 use heco_fields::{Header, put_u16, put_u32, put_versioned};
-use heco_nums::{Bytes, Memory, Shape};
+use heco_nums::{Bytes, List, Memory, Shape};
 use std::alloc::Global;
 
 fn put_name(out: &mut Bytes, name: &[u8]) -> Result<(), Memory>
@@ -59,6 +60,7 @@ fn put_gate(out: &mut Bytes, gate: Gate) -> Result<(), Memory>
         Gate::Scale { c, a } => put_two(out, 6, c, a),
         Gate::Shift { c, a } => put_two(out, 7, c, a),
         Gate::Turn { r, a } => put_turn(out, r, a),
+        Gate::Weigh { v, a } => put_two(out, 9, v, a),
     }
 }
 
@@ -101,6 +103,34 @@ fn put_inputs(out: &mut Bytes, inputs: &[Shape]) -> Result<(), Memory>
     Ok(())
 }
 
+fn put_vector(out: &mut Bytes, vector: &[u32]) -> Result<(), Memory>
+    ensures { OnOk result (out.new ≡ out.old ++ vector_text vector.now) }
+{
+    for entry in vector {
+        put_u32(out, *entry as usize)?;
+    }
+    Ok(())
+}
+
+fn put_counted_vectors(out: &mut Bytes, vectors: &[List<u32>]) -> Result<(), Memory>
+    ensures { OnOk result (out.new ≡ out.old ++ (to_be_bytes w32 (length vectors.now) ++ flat_map vector_text vectors.now)) }
+{
+    put_u32(out, vectors.len())?;
+    for vector in vectors {
+        put_vector(out, vector.as_slice())?;
+    }
+    Ok(())
+}
+
+fn put_vectors(out: &mut Bytes, vectors: &[List<u32>]) -> Result<(), Memory>
+    ensures { OnOk result (out.new ≡ out.old ++ vectors_text vectors.now) }
+{
+    match vectors {
+        [] => Ok(()),
+        _ => put_counted_vectors(out, vectors),
+    }
+}
+
 fn put_gates(out: &mut Bytes, gates: &[Gate]) -> Result<(), Memory>
     ensures { OnOk result (out.new ≡ out.old ++ gates_text gates.now) }
 {
@@ -127,11 +157,12 @@ pub fn write(alloc: Global, c: &Circuit) -> Result<Bytes, Memory>
 {
     let mut out = Bytes::new(alloc);
     let header = Header {
-        version: version_of(c.gates().as_slice()),
+        version: version_of(c.vectors().as_slice(), c.gates().as_slice()),
         preset: c.preset().id,
     };
     put_versioned(&mut out, b"HCIR", header)?;
     put_inputs(&mut out, c.inputs().as_slice())?;
+    put_vectors(&mut out, c.vectors().as_slice())?;
     put_gates(&mut out, c.gates().as_slice())?;
     put_outputs(&mut out, c.outputs().as_slice())?;
     Ok(out)

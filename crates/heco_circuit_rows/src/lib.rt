@@ -8,6 +8,8 @@ mod files;
 #[cfg(test)]
 mod listed;
 #[cfg(test)]
+mod many;
+#[cfg(test)]
 mod meant;
 #[cfg(test)]
 mod told;

@@ -1,5 +1,5 @@
-use crate::files::{circuit_of, file_of};
-use heco_circuit::{Circuit, bounds, needs, read, write};
+use crate::files::{circuit_of, file_of, is_written_again};
+use heco_circuit::{Circuit, bounds, needs};
 use std::alloc::Global;
 use std::test::Fail;
 
@@ -15,6 +15,16 @@ less bounds 4754; 4754; 9508;
 less keys none;
 mixed bounds 4754; 4754; 97975829; 97980583; 98696071;
 mixed keys relin;
+weighs gates Weigh { v: 0, a: 0 };
+weighs bounds 4754; 4825310;
+weighs keys none;
+plain bounds 4754; 97975829; 195951658; 196667146; 196671900;
+plain keys relin;
+zero gates Weigh { v: 1, a: 0 }; Weigh { v: 0, a: 1 };
+zero bounds 4754; 0; 0;
+idle gates Sub { a: 0, b: 1 };
+idle bounds 4754; 4754; 9508;
+wide bounds 4489284; 4025962955496;
 copy gates";
 
 fn gates_of(alloc: Global, c: &Circuit) -> Result<String, Fail> {
@@ -71,16 +81,14 @@ fn what_a_circuit_tells(rt: HostRuntime) -> Result<(), Fail> {
     Ok(())
 }
 
-// Whether writing what was read gives the file again.
 fn is_kept(alloc: Global, name: &str) -> Result<bool, Fail> {
     let file = file_of(alloc, name)?;
-    let c = read(alloc, file.as_slice())?;
-    Ok(write(alloc, &c)?.as_slice() == file.as_slice())
+    is_written_again(alloc, file.as_slice())
 }
 
 #[test]
 fn each_file_is_written_again(rt: HostRuntime) -> Result<(), Fail> {
-    for name in "dot copy five each less mixed".split(' ') {
+    for name in "dot copy five each less mixed weighs plain zero idle wide".split(' ') {
         assert!(rt; is_kept(rt.alloc(), name)?, "{name}");
     }
     Ok(())

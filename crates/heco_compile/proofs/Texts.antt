@@ -27,7 +27,7 @@ module _ (text : List ℕ) (s : Source) (is : IsSource text s) (typed : IsTyped 
         is = is;
         accepted = accepted;
         good = good;
-        short = file_short c (shapes_of true s.ports) good.outputs few (rw good.inputs ports) (rw good.inputs names) elements;
+        short = file_short c (shapes_of true s.ports) good.valid good.outputs few (rw good.inputs ports) (rw good.inputs names) elements;
       }
 
   pub compiled : (r : Result Plan CompileErr) → OnOk r (IsAccepted s) → IfOk r (λ c. Good s c) → IfOk r (λ c. length c.gates ≤ 20447232) → IfOk r (IsCompiled text)

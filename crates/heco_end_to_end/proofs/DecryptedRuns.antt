@@ -1,5 +1,5 @@
 -- Decrypting the result of a run gives the circuit's meaning, in each row.
-use Rattle.std.proofs.Common.{◌≡◌, ◌∙◌, ℕ, ◌<◌, ◌≤◌, ◌%◌, true, cond, List, [], ◌∷◌, length, map, get_or, refl, sym, ap, subst, inl, arith}
+use Rattle.std.proofs.Common.{◌≡◌, ◌∙◌, ℕ, ◌<◌, true, cond, List, [], ◌∷◌, length, map, get_or, refl, sym, ap, subst, inl, arith}
 use Rattle.std.specs.List.{AllZip, range_with_len}
 use Rattle.std.specs.Prelude.{All}
 use Rattle.std.proofs.lemmas.Bool.{and_parts, cond-true, eqb-true, ltb-true}
@@ -26,7 +26,7 @@ use Rattle.heco_scheme.specs.Encryption.{decrypted}
 use Rattle.heco_scheme.specs.Keys.{IsPublicKey}
 use Rattle.heco_slots.specs.Rows.{first_row, row_of}
 use Rattle.heco_texts.specs.Outputs.{output_text}
-use Rattle.heco_run_laws.specs.Carried.{HasShape, AllShaped, IsFreshFor, HaveKeys}
+use Rattle.heco_run_laws.specs.Carried.{HasShape, AllShaped, IsFreshFor, IsRow, HaveKeys}
 use Rattle.heco_run_laws.specs.Messages.{input_message}
 use Rattle.heco_run_laws.specs.Results.{is_output_wire, wire_count, result_wires, results_of}
 use Rattle.heco_run_laws.specs.Runs.{Ciphertext, ciphertext_at, run_of}
@@ -64,7 +64,7 @@ input_shape n c two = record { count = two.two; two_or_three = inl refl; words =
 pub results_are_ciphertexts : ResultsAreCiphertexts
 unfolding results_of
 results_are_ciphertexts p c e inputs valid read =
-    are_results p.n c valid (run_of p (keys_of e) c.gates inputs)
+    are_results p.n c valid (run_of p (keys_of e) c inputs)
     (wires_shaped p (keys_of e) c inputs valid read.count (All-weaker (IsTwoParts p.n) (HasShape p.n 2) (input_shape p.n) inputs read.each))
 
 -- ---- fresh inputs
@@ -119,14 +119,14 @@ module _ (p : Preset) (c : Circuit) (k : KeyLists) (material : List EncRow) (mes
   pub runs_read : AreCiphertexts p.n (length c.inputs) (encrypted_messages p (circuit_key p c k) material messages) × AreCiphertexts p.n (output_wire_count c) (results_of p (keys_of (circuit_key p c k)) c (encrypted_messages p (circuit_key p c k) material messages))
   runs_read = (encrypted, results_are_ciphertexts p c (circuit_key p c k) (encrypted_messages p (circuit_key p c k) material messages) given.valid encrypted)
 
-  module _ (e : ℕ) (odd : e % 2 ≡ 1) (rows : List (List ℕ)) (same : map (row_of p e) messages ≡ map (filled p.slots) rows) where
+  module _ (e : ℕ) (row : IsRow p e) (rows : List (List ℕ)) (same : map (row_of p e) messages ≡ map (filled p.slots) rows) where
     pub prints_its_row : row_text p e c k.s (results_of p (keys_of (circuit_key p c k)) c (encrypted_messages p (circuit_key p c k) material messages)) ≡ output_text (map shape_of c.outputs) (meaning_of c rows)
     unfolding results_of meaning_of
-    prints_its_row = printed p e k.s c given.valid (wires_of c rows) (run_of p (keys_of (circuit_key p c k)) c.gates (encrypted_messages p (circuit_key p c k) material messages))
-        (rows_decrypt p e k.s (keys_of (circuit_key p c k)) c messages rows (encrypted_messages p (circuit_key p c k) material messages) odd given.preset given.valid given.keys.secret has_keys many fresh same)
+    prints_its_row = printed p e k.s c given.valid (wires_of c rows) (run_of p (keys_of (circuit_key p c k)) c (encrypted_messages p (circuit_key p c k) material messages))
+        (rows_decrypt p e k.s (keys_of (circuit_key p c k)) c messages rows (encrypted_messages p (circuit_key p c k) material messages) row given.preset given.valid given.keys.secret has_keys many fresh same)
 
 pub rows_print : RowsPrintTheMeaning
-rows_print p e c k material messages rows odd given many same = prints_its_row p c k material messages given many e odd rows same
+rows_print p e c k material messages rows row given many same = prints_its_row p c k material messages given many e row rows same
 
 pub runs_are_read : RunsAreRead
 runs_are_read p c k material messages given many = runs_read p c k material messages given many
@@ -138,4 +138,4 @@ module _ (p : Preset) (c : Circuit) (k : KeyLists) (material : List EncRow) (row
   many_rows = length-map rows (input_message p) ∙ fit_count p.t c.inputs rows runs.fit
 
   pub prints_the_meaning : PrintsTheMeaning p c k material rows
-  prints_the_meaning = rows_print p first_row c k material (map (input_message p) rows) rows refl runs.provided many_rows (input_rows p rows (rows_fit p c rows runs.provided.preset runs.provided.valid runs.fit))
+  prints_the_meaning = rows_print p first_row c k material (map (input_message p) rows) rows (inl refl) runs.provided many_rows (input_rows p rows (rows_fit p c rows runs.provided.preset runs.provided.valid runs.fit))

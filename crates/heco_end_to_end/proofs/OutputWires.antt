@@ -10,7 +10,7 @@ use Rattle.heco_nums.specs.declared.preset.Preset.{Preset}
 use Rattle.heco_nums.specs.declared.shape.Shape.{Shape}
 use Rattle.heco_fields.specs.Runs.{along, all_along}
 use Rattle.heco_circuit.specs.Circuits.{IsCircuit}
-use Rattle.heco_circuit.specs.Plans.{Plan as Circuit, push, input_parts, is_cell, is_name, is_output, wire_parts, are_inputs, are_gates, are_outputs}
+use Rattle.heco_circuit.specs.Plans.{Plan as Circuit, push, input_parts, is_cell, is_name, is_output, wire_parts, are_inputs, are_vectors, are_gates, are_outputs}
 use Rattle.heco_circuit.specs.Validity.{has_parts, is_between, parts_of, with_gate}
 use Rattle.heco_circuit.specs.declared.gate.Cell.{Cell}
 use Rattle.heco_circuit.specs.declared.gate.Cell.TheVariants.{Number, Slot}
@@ -60,8 +60,8 @@ output_parts t slots inputs parts w before (o ∷ outputs) valid h =
 
 pub output_wire_parts : (c : Circuit) (w : ℕ) → IsCircuit c → is_output_wire c.outputs w ≡ true → has_parts 2 (wire_parts c) w ≡ true
 output_wire_parts c w valid h =
-    let behind = and_parts (is_between 1 5 c.preset) (are_inputs c && (are_gates c && are_outputs c)) valid.0 in
-    let last = and_parts (are_inputs c) (are_gates c && are_outputs c) behind.1 in
+    let behind = and_parts (is_between 1 5 c.preset) (are_inputs c && (are_vectors c && (are_gates c && are_outputs c))) valid.0 in
+    let last = and_parts (are_vectors c) (are_gates c && are_outputs c) (and_parts (are_inputs c) (are_vectors c && (are_gates c && are_outputs c)) behind.1).1 in
     let outputs = and_parts (are_gates c) (are_outputs c) last.1 in
     let each = and_parts (nat_le (length c.outputs) (256 - length c.inputs)) (all_along (is_output (modulus_of c.preset) (slots_of c.preset) c.inputs (wire_parts c)) push [] c.outputs) outputs.1 in
     output_parts (modulus_of c.preset) (slots_of c.preset) c.inputs (wire_parts c) w [] c.outputs each.1 h

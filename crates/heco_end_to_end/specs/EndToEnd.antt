@@ -1,5 +1,5 @@
 -- What decrypting the result of a run prints.
-use Rattle.std.specs.Prelude.{◌≡◌, ℕ, ◌%◌, List, length, map}
+use Rattle.std.specs.Prelude.{◌≡◌, ℕ, List, length, map}
 use Rattle.heco_nums.specs.declared.preset.Preset.{Preset}
 use Rattle.heco_circuit.specs.Circuits.{IsCircuit}
 use Rattle.heco_circuit.specs.Needs.{needed_keys}
@@ -16,6 +16,7 @@ use Rattle.heco_products.specs.Results.{keys_of}
 use Rattle.heco_slots.specs.Rows.{row_of}
 use Rattle.heco_texts.specs.Answers.{HaveFit}
 use Rattle.heco_texts.specs.Outputs.{output_text}
+use Rattle.heco_run_laws.specs.Carried.{IsRow}
 use Rattle.heco_run_laws.specs.Results.{results_of}
 use Rattle.heco_run_laws.specs.Runs.{Ciphertext}
 
@@ -32,10 +33,10 @@ pub record IsProvided (p : Preset) (c : Circuit) (k : KeyLists) (material : List
 abbrev pub messages_result : Preset → Circuit → KeyLists → List EncRow → List (List ℕ) → List Ciphertext
 messages_result p c k material messages = results_of p (keys_of (circuit_key p c k)) c (encrypted_messages p (circuit_key p c k) material messages)
 
--- where the messages have these values, and then zeros, in a row, what decrypting the result prints of this row is the text of the circuit's meaning
+-- where the messages have these values, and then zeros, in either row, what decrypting the result prints of this row is the text of the circuit's meaning
 abbrev pub RowsPrintTheMeaning : Type 0
 RowsPrintTheMeaning =
-    (p : Preset) (e : ℕ) (c : Circuit) (k : KeyLists) (material : List EncRow) (messages rows : List (List ℕ)) → e % 2 ≡ 1 → IsProvided p c k material → length messages ≡ length c.inputs
+    (p : Preset) (e : ℕ) (c : Circuit) (k : KeyLists) (material : List EncRow) (messages rows : List (List ℕ)) → IsRow p e → IsProvided p c k material → length messages ≡ length c.inputs
     → map (row_of p e) messages ≡ map (filled p.slots) rows → row_text p e c k.s (messages_result p c k material messages) ≡ output_text (map shape_of c.outputs) (meaning_of c rows)
 
 -- the encrypted messages are so many ciphertexts of two parts, and so is the result: as many as outputs have wires

@@ -121,6 +121,7 @@ abbrev circuit : Plan
 circuit = record {
   preset = 1;
   inputs = record { name = codes "x"; len = 1 } ∷ [];
+  vectors = [];
   gates = g.Mul 0 0 ∷ g.Relin 1 ∷ [];
   outputs = record { name = codes "y"; cells = Slot 2 0 ∷ [] } ∷ [];
 }

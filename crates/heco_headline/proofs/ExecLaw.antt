@@ -7,7 +7,7 @@ use Rattle.heco_nums.specs.declared.shape.Shape.{Shape}
 use Rattle.heco_nums.specs.declared.shape.Values.{Values}
 use Rattle.heco_nums.proofs.PresetFacts.{one_of_five}
 use Rattle.heco_circuit.specs.Circuits.{IsCircuit}
-use Rattle.heco_circuit.specs.Plans.{Plan as Circuit, are_inputs, are_gates, are_outputs}
+use Rattle.heco_circuit.specs.Plans.{Plan as Circuit, are_inputs, are_vectors, are_gates, are_outputs}
 use Rattle.heco_circuit.specs.Validity.{is_between}
 use Rattle.heco_execution.specs.Outcomes.{Outcome}
 use Rattle.heco_material.specs.KeyLists.{KeyLists, IsKeyMaterial, IsEncMaterial}
@@ -39,7 +39,7 @@ row_number_is id low high = elim (one_of_five id low high) [
 pub preset_number : (c : Circuit) → IsCircuit c → (preset_of c.preset).id ≡ c.preset
 unfolding preset_of
 preset_number c valid =
-    let behind = and_parts (is_between 1 5 c.preset) (are_inputs c && (are_gates c && are_outputs c)) valid.0 in
+    let behind = and_parts (is_between 1 5 c.preset) (are_inputs c && (are_vectors c && (are_gates c && are_outputs c))) valid.0 in
     let range = and_parts (nat_le 1 c.preset) (nat_le c.preset 5) behind.0 in
     row_number_is c.preset (leb-true 1 c.preset range.0) (leb-true c.preset 5 range.1)
 

@@ -1,26 +1,21 @@
 -- Both texts that come of a run on two rows of values.
-use Rattle.std.proofs.Common.{◌≡◌, ◌∙◌, ℕ, ◌%◌, List, Ok, length, map, refl, sym, ap, subst}
-use Rattle.heco_nums.specs.Presets.{modulus_of}
+use Rattle.std.proofs.Common.{◌≡◌, ◌∙◌, ℕ, List, Ok, length, refl, sym, ap, subst, inl, inr}
 use Rattle.heco_nums.specs.declared.preset.Preset.{Preset}
-use Rattle.heco_nums.specs.declared.shape.Shape.{Shape}
 use Rattle.heco_nums.specs.declared.shape.Values.{Values}
 use Rattle.heco_circuit.specs.Plans.{Plan as Circuit}
-use Rattle.heco_eval.specs.Typed.{outputs_of}
 use Rattle.heco_execution.specs.Outcomes.{Outcome}
 use Rattle.heco_material.specs.KeyLists.{KeyLists}
 use Rattle.heco_material.specs.declared.words.EncRow.{EncRow}
-use Rattle.heco_meaning.specs.Meanings.{filled, meaning_of}
 use Rattle.heco_products.specs.Decrypting.{row_text}
 use Rattle.heco_products.specs.PresetRows.{preset_of}
 use Rattle.heco_products.proofs.Pairs.{rows_fit}
 use Rattle.heco_products.proofs.Products.{fit_count}
 use Rattle.heco_run_laws.specs.Carried.{two_row_messages}
-use Rattle.heco_run_laws.proofs.RowsOfMessages.{first_rows, second_rows, length-two_rows, odd_second}
-use Rattle.heco_slots.specs.Rows.{first_row, second_row, row_of}
+use Rattle.heco_run_laws.proofs.RowsOfMessages.{first_rows, second_rows, length-two_rows}
+use Rattle.heco_slots.specs.Rows.{first_row, second_row}
 use Rattle.heco_sources.specs.Inputs.{output_shapes, IsInput}
 use Rattle.heco_syntax.specs.declared.tree.Source.{Source}
 use Rattle.heco_texts.specs.Outputs.{output_text}
-use Rattle.heco_end_to_end.specs.EndToEnd.{IsRunnable}
 use Rattle.heco_end_to_end.proofs.DecryptedRuns.{rows_print}
 use Rattle.heco_good.specs.Good.{Good}
 use Rattle.heco_headline.specs.Exec.{IsMaterialFor}
@@ -51,7 +46,7 @@ module _ (source : Source) (c : Circuit) (k : KeyLists) (material : List EncRow)
       let p : Preset = preset_of c.preset in
       let given = runs.on_first.provided in
       plain_of_meaning source c p first k material good runs.on_first (row_text p first_row c k.s (pair_result c k material first second))
-      (rows_print p first_row c k material (two_row_messages p first second) first refl given many (first_rows p first second same (rows_fit p c first given.preset given.valid runs.on_first.fit)))
+      (rows_print p first_row c k material (two_row_messages p first second) first (inl refl) given many (first_rows p first second same (rows_fit p c first given.preset given.valid runs.on_first.fit)))
 
   pub second_plain : IsPlainText source second (second_text c k material first second)
   unfolding second_text
@@ -59,7 +54,7 @@ module _ (source : Source) (c : Circuit) (k : KeyLists) (material : List EncRow)
       let p : Preset = preset_of c.preset in
       let given = runs.on_second.provided in
       plain_of_meaning source c p second k material good runs.on_second (row_text p (second_row p) c k.s (pair_result c k material first second))
-      (rows_print p (second_row p) c k material (two_row_messages p first second) second (odd_second p) given many (second_rows p first second same (rows_fit p c second given.preset given.valid runs.on_second.fit)))
+      (rows_print p (second_row p) c k material (two_row_messages p first second) second (inr refl) given many (second_rows p first second same (rows_fit p c second given.preset given.valid runs.on_second.fit)))
 
 -- ---- for material that was judged by the source alone
 

@@ -31,6 +31,7 @@ fn put_gate(out: &mut Bytes, gate: Gate) -> Result<(), Memory>
         Gate::Scale { c, a } => put_pair(out, b"Scale ", c, a),
         Gate::Shift { c, a } => put_pair(out, b"Shift ", c, a),
         Gate::Turn { r, a } => put_pair(out, b"Turn ", u32::from(r), a),
+        Gate::Weigh { v, a } => put_pair(out, b"Weigh ", v, a),
     }
 }
 

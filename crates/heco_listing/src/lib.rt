@@ -4,6 +4,7 @@
 mod gates;
 mod pieces;
 mod ports;
+mod vectors;
 mod whole;
 
 pub use whole::listing;

@@ -1,6 +1,6 @@
 ghost use Rattle.std.specs.Prelude.{◌≡◌, ◌≤◌, ◌++◌, OnOk, decimal, codes};
 ghost use Rattle.heco_nums.specs.Presets.{preset_name};
-ghost use Rattle.heco_listing.specs.Listings.{port, two, preset_line};
+ghost use Rattle.heco_listing.specs.Listings.{number_word, port, two, preset_line};
 
 use heco_nums::{Bytes, Memory};
 use itoa::Buffer;
@@ -10,6 +10,14 @@ pub fn put_number(out: &mut Bytes, n: u128) -> Result<(), Memory>
 {
     let mut buffer = Buffer::new();
     out.extend_from_slice(buffer.format(n).as_bytes())
+}
+
+/// A space and a number.
+pub fn put_number_word(out: &mut Bytes, n: u32) -> Result<(), Memory>
+    ensures { OnOk result (out.new ≡ out.old ++ number_word n) }
+{
+    out.extend_from_slice(b" ")?;
+    put_number(out, u128::from(n))
 }
 
 /// Two numbers with a space between.

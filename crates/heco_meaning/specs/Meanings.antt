@@ -6,7 +6,7 @@ use Rattle.heco_fields.specs.Runs.{along}
 use Rattle.heco_circuit.specs.declared.gate.Cell.{Cell}
 use Rattle.heco_circuit.specs.declared.gate.Cell.TheVariants.{Number, Slot}
 use Rattle.heco_circuit.specs.declared.gate.Gate.{Gate}
-use Rattle.heco_circuit.specs.declared.gate.Gate.TheVariants.{Neg, Add, Sub, Mul, Relin, Scale, Shift, Turn}
+use Rattle.heco_circuit.specs.declared.gate.Gate.TheVariants.{Neg, Add, Sub, Mul, Relin, Scale, Shift, Turn, Weigh}
 use Rattle.heco_circuit.specs.declared.gate.Output.{Output}
 use Rattle.heco_circuit.specs.Plans.{Plan}
 
@@ -32,20 +32,21 @@ products t (x ∷ xs) (y ∷ ys) = (x * y) % t ∷ products t xs ys
 abbrev pub turned : ℕ → List ℕ → List ℕ
 turned r xs = drop r xs ++ take r xs
 
--- the wire that a gate gives behind these wires
-abbrev pub wire_of : ℕ → List (List ℕ) → Gate → List ℕ
-wire_of t wires (Neg a) = map (λ x. (t - x) % t) (wire_at wires a)
-wire_of t wires (Add a b) = sums t (wire_at wires a) (wire_at wires b)
-wire_of t wires (Sub a b) = differences t (wire_at wires a) (wire_at wires b)
-wire_of t wires (Mul a b) = products t (wire_at wires a) (wire_at wires b)
-wire_of t wires (Relin a) = wire_at wires a
-wire_of t wires (Scale c a) = map (λ x. (c * x) % t) (wire_at wires a)
-wire_of t wires (Shift c a) = map (λ x. (x + c) % t) (wire_at wires a)
-wire_of t wires (Turn r a) = turned r (wire_at wires a)
+-- the wire that a gate gives behind these wires, in a circuit of these plain vectors
+abbrev pub wire_of : ℕ → List (List ℕ) → List (List ℕ) → Gate → List ℕ
+wire_of t vectors wires (Neg a) = map (λ x. (t - x) % t) (wire_at wires a)
+wire_of t vectors wires (Add a b) = sums t (wire_at wires a) (wire_at wires b)
+wire_of t vectors wires (Sub a b) = differences t (wire_at wires a) (wire_at wires b)
+wire_of t vectors wires (Mul a b) = products t (wire_at wires a) (wire_at wires b)
+wire_of t vectors wires (Relin a) = wire_at wires a
+wire_of t vectors wires (Scale c a) = map (λ x. (c * x) % t) (wire_at wires a)
+wire_of t vectors wires (Shift c a) = map (λ x. (x + c) % t) (wire_at wires a)
+wire_of t vectors wires (Turn r a) = turned r (wire_at wires a)
+wire_of t vectors wires (Weigh v a) = products t (wire_at vectors v) (wire_at wires a)
 
 -- the wires with that of the gate
-abbrev pub with_wire : ℕ → List (List ℕ) → Gate → List (List ℕ)
-with_wire t wires g = wires ++ wire_of t wires g ∷ []
+abbrev pub with_wire : ℕ → List (List ℕ) → List (List ℕ) → Gate → List (List ℕ)
+with_wire t vectors wires g = wires ++ wire_of t vectors wires g ∷ []
 
 -- the values of an input, and then zeros
 abbrev pub filled : ℕ → List ℕ → List ℕ
@@ -53,7 +54,7 @@ filled slots values = values ++ replicate (slots - length values) 0
 
 -- all wires, for these rows of inputs
 abbrev pub wires_of : Plan → List (List ℕ) → List (List ℕ)
-wires_of p rows = along (with_wire (modulus_of p.preset)) (map (filled (slots_of p.preset)) rows) p.gates
+wires_of p rows = along (with_wire (modulus_of p.preset) p.vectors) (map (filled (slots_of p.preset)) rows) p.gates
 
 -- an element of an output is its number, or the slot of its wire
 abbrev pub cell_value : List (List ℕ) → Cell → ℕ

@@ -14,7 +14,8 @@ pub fn meaning(alloc: Global, c: &Circuit, inputs: &Inputs) -> Result<Outputs, M
 {
     let preset = c.preset();
     let first = first_wires(alloc, preset.slots, inputs.rows.as_slice())?;
-    let wires = all_wires(alloc, preset.t, first, c.gates().as_slice())?;
+    let vectors = c.vectors().as_slice();
+    let wires = all_wires(alloc, preset.t, vectors, first, c.gates().as_slice())?;
     let rows = rows_of(alloc, wires.as_slice(), c.outputs().as_slice())?;
     Ok(Outputs { rows })
 }

@@ -16,10 +16,16 @@ pub fn wire_at(wires: &[List<u32>], a: u32) -> &[u32]
     }
 }
 
-/// The wire that a gate gives behind these wires.
-fn wire_of(alloc: Global, t: u32, wires: &[List<u32>], gate: Gate) -> Result<List<u32>, Memory>
+/// The wire that a gate gives behind these wires, in a circuit of these plain vectors.
+fn wire_of(
+    alloc: Global,
+    t: u32,
+    vectors: &[List<u32>],
+    wires: &[List<u32>],
+    gate: Gate,
+) -> Result<List<u32>, Memory>
     requires { 1 ≤ t }
-    ensures { IfOk result (λ wire. wire ≡ wire_of t wires.now gate) }
+    ensures { IfOk result (λ wire. wire ≡ wire_of t vectors.now wires.now gate) }
 {
     match gate {
         Gate::Neg { a } => slots::negatives(alloc, t, wire_at(wires, a)),
@@ -30,6 +36,7 @@ fn wire_of(alloc: Global, t: u32, wires: &[List<u32>], gate: Gate) -> Result<Lis
         Gate::Scale { c, a } => slots::multiples(alloc, t, c, wire_at(wires, a)),
         Gate::Shift { c, a } => slots::shifted(alloc, t, c, wire_at(wires, a)),
         Gate::Turn { r, a } => slots::turned(alloc, r, wire_at(wires, a)),
+        Gate::Weigh { v, a } => slots::products(alloc, t, wire_at(vectors, v), wire_at(wires, a)),
     }
 }
 
@@ -50,16 +57,17 @@ pub fn first_wires(alloc: Global, slots: u32, rows: &[List<u32>]) -> Result<List
 pub fn all_wires(
     alloc: Global,
     t: u32,
+    vectors: &[List<u32>],
     inputs: List<List<u32>>,
     gates: &[Gate],
 ) -> Result<List<List<u32>>, Memory>
     requires { 1 ≤ t }
-    ensures { IfOk result (λ wires. wires ≡ along (with_wire t) inputs gates.now) }
+    ensures { IfOk result (λ wires. wires ≡ along (with_wire t vectors.now) inputs gates.now) }
 {
     let mut wires = inputs;
     let mut rest = gates;
     while let [gate, after @ ..] = rest {
-        let wire = wire_of(alloc, t, wires.as_slice(), *gate)?;
+        let wire = wire_of(alloc, t, vectors, wires.as_slice(), *gate)?;
         wires.push(wire)?;
         rest = after;
     }

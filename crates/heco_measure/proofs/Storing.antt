@@ -8,7 +8,7 @@ use Rattle.std.proofs.lemmas.List.{length_push}
 use Rattle.std.proofs.lemmas.Option.{get_or_from_slice_get, slice_get-get_or}
 use lib.IntN.{ℤ}
 use Rattle.heco_nums.specs.declared.preset.Preset.{Preset}
-use Rattle.heco_circuit.specs.Bounds.{wire_bounds}
+use Rattle.heco_circuit.specs.Bounds.{weights_of, wire_bounds}
 use Rattle.heco_circuit.specs.Circuits.{IsCircuit}
 use Rattle.heco_circuit.specs.Plans.{Plan, wire_parts}
 use Rattle.heco_circuit.specs.declared.gate.Gate.{Gate}
@@ -23,11 +23,12 @@ use Rattle.heco_schedules.proofs.Order.{get_append_left, get_append_right}
 use Rattle.heco_sched.specs.Wirings.{operands_of, wiring}
 use Rattle.heco_sched.proofs.TestLaws.{first_named}
 use Rattle.heco_sched.proofs.Wired.{circuit_wired}
-use Rattle.heco_run.specs.Making.{keys_of, made_of, made_parts, maker, Takes}
+use Rattle.heco_run.specs.Making.{HasVector, keys_of, made_of, made_parts, maker, Takes, weighers_of}
 use Rattle.heco_run.specs.Shapes.{AreTwoParts, IsShaped, Serves}
-use Rattle.heco_run.proofs.Fits.{GateFits, gate_fits, gate_takes, input_has_two}
+use Rattle.heco_run.proofs.Fits.{GateFits, gate_fits, gate_has_vector, gate_takes, input_has_two}
 use Rattle.heco_run.proofs.Gathering.{entry_within}
 use Rattle.heco_run.proofs.InOrder.{run_in_order}
+use Rattle.heco_run.proofs.VectorWeighers.{vector_there}
 use Rattle.heco_run_laws.specs.Measured.{measured_messages, measured_noise}
 use Rattle.heco_run_laws.specs.Messages.{message_at}
 use Rattle.heco_run_laws.specs.Results.{wire_count}
@@ -69,9 +70,9 @@ some_mapped f (Some x) y e = refl
 
 module _ (c : Plan) (e : Eval) (inputs : List Ciphertext) (valid : IsCircuit c) (serves : Serves c e) (many : length inputs ≡ length c.inputs) where
   abbrev run : List Ciphertext
-  run = run_of e.preset (keys_of e) c.gates inputs
+  run = run_of e.preset (keys_of e) c inputs
 
-  in_order : IsInOrder (wiring c) (maker (made_of e.preset (keys_of e)) c.gates) inputs run
+  in_order : IsInOrder (wiring c) (maker (made_of e.preset (keys_of e) c.vectors) c.gates) inputs run
   in_order = run_in_order c e.preset (keys_of e) inputs (circuit_wired c valid.0).wired many
 
   pub length-run : length run ≡ wire_count c
@@ -102,23 +103,26 @@ module _ (c : Plan) (e : Eval) (inputs : List Ciphertext) (valid : IsCircuit c) 
     same_operands = gathered_same (entry store) (slice_get run) (operands_of g) (λ wire named. has.each wire (earlier c k g valid at wire named))
 
     -- the run has what the gate makes of them
-    next : slice_get run (length c.inputs + k) ≡ option_map (made_of e.preset (keys_of e) g) (gathered (slice_get run) (operands_of g))
+    next : slice_get run (length c.inputs + k) ≡ option_map (made_of e.preset (keys_of e) c.vectors g) (gathered (slice_get run) (operands_of g))
     next =
         let reads : unwrap_or (slice_get (map operands_of c.gates) k) [] ≡ operands_of g = ap (λ o. unwrap_or o []) (get-map operands_of c.gates k g at) in
         let gate : get_or c.gates k (Neg 0) ≡ g = get_or_from_slice_get c.gates k g (Neg 0) at in
         in_order.gates_next k (omega (arith, inside, length-map operands_of c.gates))
-        ∙ ap (λ ops. option_map (made_of e.preset (keys_of e) (get_or c.gates k (Neg 0))) (gathered (slice_get run) ops)) reads
-        ∙ ap (λ h. option_map (made_of e.preset (keys_of e) h) (gathered (slice_get run) (operands_of g))) gate
+        ∙ ap (λ ops. option_map (made_of e.preset (keys_of e) c.vectors (get_or c.gates k (Neg 0))) (gathered (slice_get run) ops)) reads
+        ∙ ap (λ h. option_map (made_of e.preset (keys_of e) c.vectors h) (gathered (slice_get run) (operands_of g))) gate
 
     pub operands_found : IsSome (gathered (entry store) (operands_of g))
     operands_found =
         let x = there run (length c.inputs + k) (omega (arith, length-run, inside)) in
-        rw same_operands (some_mapped (made_of e.preset (keys_of e) g) (gathered (slice_get run) (operands_of g)) x.0 (sym next ∙ x.1))
+        rw same_operands (some_mapped (made_of e.preset (keys_of e) c.vectors g) (gathered (slice_get run) (operands_of g)) x.0 (sym next ∙ x.1))
 
     takes_and_makes : (xs : List Ciphertext) → gathered (entry store) (operands_of g) ≡ Some xs → Takes e.preset e.needs g xs × (made_parts g xs ≡ get_or (wire_parts c) (length c.inputs + k) 0)
     takes_and_makes xs all =
         let r = gate_takes c e (entry store) k g xs serves at fits (λ wire x found. (has.shaped wire x found).count) all in
         (r.0, r.1 ∙ sym fits.parts)
+
+    pub vector : (weighers : List (List ℕ)) → weighers ≡ weighers_of e.preset c.vectors → HasVector (length weighers) g
+    vector weighers same = vector_there e.preset weighers c.vectors same g (gate_has_vector c k g fits)
 
     pub takes : (xs : List Ciphertext) → gathered (entry store) (operands_of g) ≡ Some xs → Takes e.preset e.needs g xs
     takes xs all = (takes_and_makes xs all).0
@@ -127,10 +131,10 @@ module _ (c : Plan) (e : Eval) (inputs : List Ciphertext) (valid : IsCircuit c) 
     parts xs all = (takes_and_makes xs all).1
 
     -- with what it makes the store has one wire more
-    pub next_wires : (out : Ciphertext) → Some out ≡ option_map (made_of e.preset (keys_of e) g) (gathered (entry store) (operands_of g)) → IsShaped e.preset.n (get_or (wire_parts c) (length c.inputs + k) 0) out
+    pub next_wires : (out : Ciphertext) → Some out ≡ option_map (made_of e.preset (keys_of e) c.vectors g) (gathered (entry store) (operands_of g)) → IsShaped e.preset.n (get_or (wire_parts c) (length c.inputs + k) 0) out
         → HasFirst c e.preset.n run (length c.inputs + (k + 1)) (store ++ Some out ∷ [])
     next_wires out made shape =
-        let here : Some out ≡ slice_get run (length c.inputs + k) = made ∙ ap (option_map (made_of e.preset (keys_of e) g)) same_operands ∙ sym next in
+        let here : Some out ≡ slice_get run (length c.inputs + k) = made ∙ ap (option_map (made_of e.preset (keys_of e) c.vectors g)) same_operands ∙ sym next in
         record {
           count = length_push store (Some out) ∙ omega (arith, has.count);
           each = λ wire l. elim (cases_lt wire (length store)) [
@@ -175,10 +179,10 @@ abbrev measured : ℕ → ℕ → ℕ → Measured
 measured w e b = record { wire = w; noise = e; bound = b }
 
 module _ (p : Preset) (s : List ℤ) (keys : SwitchKeys) (c : Plan) (inputs : List Ciphertext) (store : List (Option Ciphertext)) (messages : List (List ℕ)) (bounds : List ℕ) where
-  pub all_measured : ((wire : ℕ) → wire < wire_count c → ciphertext_in store wire ≡ ciphertext_at (run_of p keys c.gates inputs) wire) → messages ≡ measured_messages p s c inputs
-      → bounds ≡ wire_bounds c.preset c.inputs c.gates → length messages ≡ wire_count c
+  pub all_measured : ((wire : ℕ) → wire < wire_count c → ciphertext_in store wire ≡ ciphertext_at (run_of p keys c inputs) wire) → messages ≡ measured_messages p s c inputs
+      → bounds ≡ wire_bounds c.preset (weights_of c.preset c.vectors) c.inputs c.gates → length messages ≡ wire_count c
       → map (measured_of p s (ciphertext_in store) messages bounds) (range_with_len 0 (length messages)) ≡ measured_wires p s keys c inputs
   unfolding measured_wires measured_noise
   all_measured same ms bs count =
-      rw (count, bs, ms) (range_same (measured_of p s (ciphertext_in store) (measured_messages p s c inputs) (wire_bounds c.preset c.inputs c.gates)) (measured_wire p s keys c inputs) 0 (wire_count c)
-      (λ w low high. ap (λ (x : Ciphertext). measured w (noise p s x (message_at (measured_messages p s c inputs) w)) (get_or (wire_bounds c.preset c.inputs c.gates) w 0)) (same w (omega arith))))
+      rw (count, bs, ms) (range_same (measured_of p s (ciphertext_in store) (measured_messages p s c inputs) (wire_bounds c.preset (weights_of c.preset c.vectors) c.inputs c.gates)) (measured_wire p s keys c inputs) 0 (wire_count c)
+      (λ w low high. ap (λ (x : Ciphertext). measured w (noise p s x (message_at (measured_messages p s c inputs) w)) (get_or (wire_bounds c.preset (weights_of c.preset c.vectors) c.inputs c.gates) w 0)) (same w (omega arith))))

@@ -14,6 +14,7 @@ use heco_circuit::Circuit;
 use heco_keys::Secret;
 use heco_nums::Memory;
 use heco_poly::Poly;
+use heco_slots::SlotTable;
 use std::alloc::Global;
 
 /// The raw decryption of an input: of both rows, before slots are read.
@@ -56,9 +57,11 @@ pub fn wire_messages(
 {
     let _valid = c.preset();
     let mut messages = input_messages(alloc, s, ins)?;
+    let table = SlotTable::build(alloc, s.preset())?;
+    let vectors = c.vectors().as_slice();
     let gates = c.gates().as_slice();
     for gate in gates {
-        let message = gate_message(alloc, s.preset(), *gate, messages.as_slice())?;
+        let message = gate_message(alloc, &table, vectors, *gate, messages.as_slice())?;
         messages.push(message)?;
     }
     Ok(messages)

@@ -13,7 +13,7 @@ use heco_bfv::{Ct, Gates};
 use heco_circuit::Circuit;
 use heco_keys::Eval;
 use heco_nums::{Memory, Preset};
-use heco_run::{buffer, make_gate};
+use heco_run::{buffer, each_weigher, make_gate};
 use std::alloc::Global;
 
 fn copied_input(alloc: Global, p: &Preset, c: &Ct) -> Result<Ct, Memory>
@@ -42,16 +42,17 @@ pub fn kept_run(alloc: Global, c: &Circuit, e: &Eval, ins: &[Ct]) -> Result<Vec<
     requires preset { e.now.preset.id ≡ c.now.preset }
     requires keys { opening_refusal c.now e.now.needs (length ins.now) ≡ None }
     requires inputs { AreTwoParts e.now.preset.n ins.now }
-    ensures { IfOk result (λ store. HasFirst c.now e.now.preset.n (run_of e.now.preset (keys_of e.now) c.now.gates ins.now) (wire_count c.now) store.items) }
+    ensures { IfOk result (λ store. HasFirst c.now e.now.preset.n (run_of e.now.preset (keys_of e.now) c.now ins.now) (wire_count c.now) store.items) }
 {
     let _valid = c.preset();
     let p = e.preset();
     let mut room = Gates::open(alloc, p)?;
+    let weighers = each_weigher(alloc, p, c)?;
     let mut store = input_store(alloc, p, ins)?;
     let gates = c.gates().as_slice();
     for gate in gates {
         let mut out = buffer(alloc, p, &store, *gate)?;
-        make_gate(&mut room, e, *gate, &store, &mut out);
+        make_gate(&mut room, e, weighers.as_slice(), *gate, &store, &mut out);
         store.push(Some(out))?;
     }
     Ok(store)

@@ -9,7 +9,7 @@ use Rattle.heco_written.specs.VectorTerm.{VectorTerm, Input, Negated, Added, Mul
 use Rattle.heco_written.specs.Cost.{gates, late_gates, is_due}
 use Rattle.heco_written.specs.Needs.{is_product, turns_by}
 use Rattle.heco_circuit.specs.declared.gate.Gate.{Gate}
-use Rattle.heco_circuit.specs.declared.gate.Gate.TheVariants.{Neg, Add, Sub, Mul, Relin, Scale, Shift, Turn}
+use Rattle.heco_circuit.specs.declared.gate.Gate.TheVariants.{Neg, Add, Sub, Mul, Relin, Scale, Shift, Turn, Weigh}
 use Rattle.heco_circuit.specs.Needs.{is_relin, turns_by as gate_turns_by}
 use Rattle.heco_circuit.specs.Versions.{is_sub, version_of}
 use Rattle.heco_place.specs.Kinds.{Kind, Difference, Product, Relinearisation, TurnBy, kind, kinds, relinearisation_where, is_relinearised}
@@ -68,6 +68,7 @@ relin_is (Relin a) = refl
 relin_is (Scale c a) = refl
 relin_is (Shift c a) = refl
 relin_is (Turn r a) = refl
+relin_is (Weigh v a) = refl
 
 mul_is : (g : Gate) → is_product_gate g ≡ is_product_kind (kind g)
 mul_is (Neg a) = refl
@@ -78,6 +79,7 @@ mul_is (Relin a) = refl
 mul_is (Scale c a) = refl
 mul_is (Shift c a) = refl
 mul_is (Turn r a) = refl
+mul_is (Weigh v a) = refl
 
 sub_is : (g : Gate) → is_sub g ≡ is_difference_kind (kind g)
 sub_is (Neg a) = refl
@@ -88,6 +90,7 @@ sub_is (Relin a) = refl
 sub_is (Scale c a) = refl
 sub_is (Shift c a) = refl
 sub_is (Turn r a) = refl
+sub_is (Weigh v a) = refl
 
 turn_is : (r : ℕ) (g : Gate) → gate_turns_by r g ≡ turns_kind r (kind g)
 turn_is r (Neg a) = refl
@@ -98,6 +101,7 @@ turn_is r (Relin a) = refl
 turn_is r (Scale c a) = refl
 turn_is r (Shift c a) = refl
 turn_is r (Turn s a) = eqb_sym s r
+turn_is r (Weigh v a) = refl
 
 module _ (late : Bool) (ts vs : List VectorTerm) where
   abbrev relins : VectorTerm → Bool
@@ -231,7 +235,7 @@ module _ (late : Bool) (ts vs : List VectorTerm) where
     no_subs : list_any is_sub gs ≡ false
     no_subs = any-map kind is_difference_kind is_sub sub_is gs ∙ ap (list_any is_difference_kind) are ∙ any-flat (kinds late ts vs) is_difference_kind (λ v. false) has_difference xs ∙ any_never xs
 
-    pub version_is : version_of gs ≡ 1
+    pub version_is : version_of [] gs ≡ 1
     version_is = rw no_subs refl
 
 -- both forms of the gates differ by what is due and what is a product

@@ -26,7 +26,7 @@ use Rattle.heco_ir.specs.Terms.{vector_terms}
 use Rattle.heco_ir.proofs.Counted.{used_within, agreement}
 use Rattle.heco_circuit.specs.declared.gate.Gate.{Gate}
 use Rattle.heco_circuit.specs.declared.gate.Output.{Output}
-use Rattle.heco_circuit.specs.Bounds.{fresh_bounds, bound_of, with_bound}
+use Rattle.heco_circuit.specs.Bounds.{fresh_bounds, bound_of, with_bound, weights_of}
 use Rattle.heco_circuit.specs.CircuitFormat.{plan}
 use Rattle.heco_circuit.specs.Circuits.{IsCircuit}
 use Rattle.heco_circuit.specs.Needs.{turns_by}
@@ -53,13 +53,13 @@ use Rattle.heco_place.specs.Ports.{ArePorts}
 use Rattle.heco_place.proofs.PortLaws.{ports_of}
 use Rattle.heco_place.proofs.HomesWithin.{homes_within}
 
-length-bounds : (id : ℕ) (bounds : List ℕ) (gates : List Gate) → length (along (with_bound id) bounds gates) ≡ length bounds + length gates
-length-bounds id bounds [] = omega arith
-length-bounds id bounds (g ∷ gates) = omega (arith, length-bounds id (with_bound id bounds g) gates, length_push bounds (bound_of id bounds g))
+length-bounds : (id : ℕ) (weights bounds : List ℕ) (gates : List Gate) → length (along (with_bound id weights) bounds gates) ≡ length bounds + length gates
+length-bounds id weights bounds [] = omega arith
+length-bounds id weights bounds (g ∷ gates) = omega (arith, length-bounds id weights (with_bound id weights bounds g) gates, length_push bounds (bound_of id weights bounds g))
 
 bounds_low : (c : Plan) (most : ℕ) → ((k : ℕ) → k < length c.gates → get_or (bounds_of c) (length c.inputs + k) 0 ≤ most) → All (λ e. e ≤ most) (gate_bounds c)
 bounds_low c most h k d l =
-    let long : length (bounds_of c) ≡ length c.inputs + length c.gates = length-bounds c.preset (fresh_bounds c.preset c.inputs) c.gates ∙ ap (λ n. n + length c.gates) (length-fresh_bounds c.preset c.inputs) in
+    let long : length (bounds_of c) ≡ length c.inputs + length c.gates = length-bounds c.preset (weights_of c.preset c.vectors) (fresh_bounds c.preset c.inputs) c.gates ∙ ap (λ n. n + length c.gates) (length-fresh_bounds c.preset c.inputs) in
     let gate : k < length c.gates = omega (arith, length-drop (length c.inputs) (bounds_of c)) in
     let inside : length c.inputs + k < length (bounds_of c) = omega arith in
     subst (λ e. e ≤ most) (sym (get_or-drop (length c.inputs) (bounds_of c) k d ∙ get_or_default (bounds_of c) (length c.inputs + k) d 0 inside)) (h k gate)

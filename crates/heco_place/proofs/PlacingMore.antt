@@ -67,13 +67,13 @@ where_due P x y false low high = low refl
 module _ (id most : ℕ) (inputs : List Shape) where
   -- gates that are valid and low
   record Behind (gates : List Gate) : Type 0 where
-    valid : all_along (is_gate (modulus_of id) (slots_of id)) with_gate (input_parts inputs) gates ≡ true
-    low : all_along (is_low id most) (with_bound id) (fresh_bounds id inputs) gates ≡ true
+    valid : all_along (is_gate (modulus_of id) (slots_of id) 0) with_gate (input_parts inputs) gates ≡ true
+    low : all_along (is_low id most) (with_bound id []) (fresh_bounds id inputs) gates ≡ true
 
   behind_more : (gates : List Gate) (g : Gate) (long : Bool) (v : VectorTerm) → Behind gates → Gives id inputs gates g long v → bound (scheme_of id) v ≤ most → Behind (gates ++ g ∷ [])
   behind_more gates g long v h c le = record {
-    valid = all_along_push (is_gate (modulus_of id) (slots_of id)) with_gate (input_parts inputs) gates g h.valid c.valid;
-    low = all_along_push (is_low id most) (with_bound id) (fresh_bounds id inputs) gates g h.low (le-leb _ most (below _ (share (scheme_of id) long) c.bound_within));
+    valid = all_along_push (is_gate (modulus_of id) (slots_of id) 0) with_gate (input_parts inputs) gates g h.valid c.valid;
+    low = all_along_push (is_low id most) (with_bound id []) (fresh_bounds id inputs) gates g h.low (le-leb _ most (below _ (share (scheme_of id) long) c.bound_within));
   }
     where
       below : (b s : ℕ) → b + s ≤ bound (scheme_of id) v → b ≤ most

@@ -29,26 +29,26 @@ use Rattle.heco_place.proofs.KindCounts.{gate_count, relin_count_is, mul_count_i
 use Rattle.heco_place.proofs.NodeTerms.{length-vector_terms}
 
 -- bounds that are all low
-pub low_at : (id most : ℕ) (bs : List ℕ) (gs : List Gate) → all_along (is_low id most) (with_bound id) bs gs ≡ true → (k : ℕ) → k < length gs
-    → get_or (along (with_bound id) bs gs) (length bs + k) 0 ≤ most
+pub low_at : (id most : ℕ) (bs : List ℕ) (gs : List Gate) → all_along (is_low id most) (with_bound id []) bs gs ≡ true → (k : ℕ) → k < length gs
+    → get_or (along (with_bound id []) bs gs) (length bs + k) 0 ≤ most
 low_at id most bs [] e k h = elim h [ ]
 low_at id most bs (g ∷ gs) e zero h =
     let z : length bs + 0 ≡ length bs = omega arith in
-    let b : ℕ = bound_of id bs g in
-    let here : get_or (along (with_bound id) (with_bound id bs g) gs) (length bs) 0 ≡ b =
-    along-keeps (bound_of id) (with_bound id bs g) gs (length bs) 0 (omega (arith, length_push bs b)) ∙ get_or_at bs b [] 0 (length bs) refl in
+    let b : ℕ = bound_of id [] bs g in
+    let here : get_or (along (with_bound id []) (with_bound id [] bs g) gs) (length bs) 0 ≡ b =
+    along-keeps (bound_of id []) (with_bound id [] bs g) gs (length bs) 0 (omega (arith, length_push bs b)) ∙ get_or_at bs b [] 0 (length bs) refl in
     rw (z, here) (leb-true b most (left _ _ e))
 low_at id most bs (g ∷ gs) e (suc k) h =
-    let s : length bs + suc k ≡ length (with_bound id bs g) + k = omega (arith, length_push bs (bound_of id bs g)) in
-    rw s (low_at id most (with_bound id bs g) gs (right (is_low id most bs g) _ e) k (omega arith))
+    let s : length bs + suc k ≡ length (with_bound id [] bs g) + k = omega (arith, length_push bs (bound_of id [] bs g)) in
+    rw s (low_at id most (with_bound id [] bs g) gs (right (is_low id most bs g) _ e) k (omega arith))
 
 loud : (e most : ℕ) → e ≤ most → IsQuiet most → passes e ≡ false
 loud e most le q = grind (arith, nat_tests)
 
-pub none_passes : (id most : ℕ) → IsQuiet most → (n : ℕ) (bs : List ℕ) (gs : List Gate) → all_along (is_low id most) (with_bound id) bs gs ≡ true → first_passing id n bs gs ≡ None
+pub none_passes : (id most : ℕ) → IsQuiet most → (n : ℕ) (bs : List ℕ) (gs : List Gate) → all_along (is_low id most) (with_bound id []) bs gs ≡ true → first_passing id [] n bs gs ≡ None
 none_passes id most q n bs [] e = refl
 none_passes id most q n bs (g ∷ gs) e =
-    rw (loud (bound_of id bs g) most (leb-true _ most (left _ _ e)) q) (none_passes id most q (n + 1) (with_bound id bs g) gs (right (is_low id most bs g) _ e))
+    rw (loud (bound_of id [] bs g) most (leb-true _ most (left _ _ e)) q) (none_passes id most q (n + 1) (with_bound id [] bs g) gs (right (is_low id most bs g) _ e))
 
 -- the number of gates of terms is that of their nodes
 node_gates_are : (us : List VectorTerm) (n : VNode) → gates (vector_term_over us n) ≡ node_gates n

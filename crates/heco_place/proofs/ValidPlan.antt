@@ -14,7 +14,7 @@ use Rattle.heco_fields.specs.Formats.{versioned_text}
 use Rattle.heco_circuit.specs.declared.gate.Cell.{Cell}
 use Rattle.heco_circuit.specs.declared.gate.Cell.TheVariants.{Number, Slot}
 use Rattle.heco_circuit.specs.declared.gate.Gate.{Gate}
-use Rattle.heco_circuit.specs.declared.gate.Gate.TheVariants.{Neg, Add, Sub, Mul, Relin, Scale, Shift, Turn}
+use Rattle.heco_circuit.specs.declared.gate.Gate.TheVariants.{Neg, Add, Sub, Mul, Relin, Scale, Shift, Turn, Weigh}
 use Rattle.heco_circuit.specs.declared.gate.Output.{Output}
 use Rattle.heco_circuit.specs.Validity.{is_between, is_gate, with_gate}
 use Rattle.heco_circuit.specs.Plans.{names_input, names_output, is_name, is_input, is_cell, is_output, push, input_parts, is_formed, shape_of}
@@ -76,7 +76,7 @@ module _ (id : ℕ) (inputs shapes : List Shape) (gates : List Gate) (outputs : 
   count : length outputs ≡ length shapes
   count = sym (length-map outputs shape_of) ∙ ap length are
 
-  pub formed : 1 ≤ id → id ≤ 5 → all_along (is_gate (modulus_of id) (slots_of id)) with_gate (input_parts inputs) gates ≡ true
+  pub formed : 1 ≤ id → id ≤ 5 → all_along (is_gate (modulus_of id) (slots_of id) 0) with_gate (input_parts inputs) gates ≡ true
       → list_all (is_cell (modulus_of id) (slots_of id) (along with_gate (input_parts inputs) gates)) (flat_map cells_of outputs) ≡ true → is_formed (plan id inputs gates outputs) ≡ true
   formed low up valid cells =
       both _ _ (both _ _ (le-leb 1 id low) (le-leb id 5 up))
@@ -96,6 +96,7 @@ module _ (id : ℕ) (inputs shapes : List Shape) (gates : List Gate) (outputs : 
   gate_short (Scale c a) = omega arith
   gate_short (Shift c a) = omega arith
   gate_short (Turn r a) = omega arith
+  gate_short (Weigh v a) = omega arith
 
   gates_short : (gs : List Gate) → length (flat_map gate_text gs) ≤ 9 * length gs
   gates_short [] = omega arith

@@ -25,10 +25,10 @@ abbrev pub all_parts : List Shape → List Gate → List ℕ
 all_parts inputs gates = along with_gate (input_parts inputs) gates
 
 abbrev pub all_bounds : ℕ → List Shape → List Gate → List ℕ
-all_bounds id inputs gates = along (with_bound id) (fresh_bounds id inputs) gates
+all_bounds id inputs gates = along (with_bound id []) (fresh_bounds id inputs) gates
 
 abbrev pub all_slots : ℕ → List (List ℕ) → List Gate → List (List ℕ)
-all_slots id rows gates = along (with_wire (modulus_of id)) (map (filled (slots_of id)) rows) gates
+all_slots id rows gates = along (with_wire (modulus_of id) []) (map (filled (slots_of id)) rows) gates
 
 -- a long wire has three parts, any other two
 abbrev pub parts_where : Bool → ℕ
@@ -47,7 +47,7 @@ pub record Carries (id : ℕ) (inputs : List Shape) (gates : List Gate) (wire : 
 
 -- The gate may stand next, and its wire then carries the term.
 pub record Gives (id : ℕ) (inputs : List Shape) (gates : List Gate) (gate : Gate) (long : Bool) (v : VectorTerm) : Type 0 where
-  pub valid : is_gate (modulus_of id) (slots_of id) (all_parts inputs gates) gate ≡ true
+  pub valid : is_gate (modulus_of id) (slots_of id) 0 (all_parts inputs gates) gate ≡ true
   pub parts_are : parts_of (all_parts inputs gates) gate ≡ parts_where long
-  pub bound_within : bound_of id (all_bounds id inputs gates) gate + share (scheme_of id) long ≤ bound (scheme_of id) v
-  pub slots_are : (rows : List (List ℕ)) → AreRows id inputs rows → wire_of (modulus_of id) (all_slots id rows gates) gate ≡ vector_slots (world_of id rows) v
+  pub bound_within : bound_of id [] (all_bounds id inputs gates) gate + share (scheme_of id) long ≤ bound (scheme_of id) v
+  pub slots_are : (rows : List (List ℕ)) → AreRows id inputs rows → wire_of (modulus_of id) [] (all_slots id rows gates) gate ≡ vector_slots (world_of id rows) v

@@ -5,7 +5,7 @@ use Rattle.heco_written.specs.VectorTerm.{VectorTerm, Input, Multiplied, Turned}
 use Rattle.heco_written.specs.Cost.{is_due, cost, late_cost}
 use Rattle.heco_written.specs.Needs.{is_product}
 use Rattle.heco_circuit.specs.declared.gate.Gate.{Gate}
-use Rattle.heco_circuit.specs.declared.gate.Gate.TheVariants.{Neg, Add, Sub, Mul, Relin, Scale, Shift, Turn}
+use Rattle.heco_circuit.specs.declared.gate.Gate.TheVariants.{Neg, Add, Sub, Mul, Relin, Scale, Shift, Turn, Weigh}
 
 -- whether the wire of a term is relinearised: late where it is due, or else where the term is a product
 abbrev pub is_relinearised : Bool → List VectorTerm → List VectorTerm → VectorTerm → Bool
@@ -15,6 +15,7 @@ is_relinearised late ts vs v = cond late (is_due ts vs v) (is_product v)
 pub data Kind : Type 0 where
   Linear : Kind
   Difference : Kind
+  Weighing : Kind
   Product : Kind
   Relinearisation : Kind
   TurnBy : ℕ → Kind
@@ -28,6 +29,7 @@ kind (Relin a) = Relinearisation
 kind (Scale c a) = Linear
 kind (Shift c a) = Linear
 kind (Turn r a) = TurnBy r
+kind (Weigh v a) = Weighing
 
 abbrev pub kind_of_term : VectorTerm → Kind
 kind_of_term (Multiplied v u) = Product

@@ -1,5 +1,5 @@
 -- Gates for the first nodes of a list, and what carries their terms.
-use Rattle.std.specs.Prelude.{◌≡◌, ℕ, ◌<◌, ◌≤◌, Bool, true, false, ◌&&◌, not, nat_le, nat_lt, List, length, map, take, slice_index_or}
+use Rattle.std.specs.Prelude.{◌≡◌, ℕ, ◌<◌, ◌≤◌, Bool, true, false, ◌&&◌, not, nat_le, nat_lt, List, [], length, map, take, slice_index_or}
 use Rattle.std.specs.List.{flat_map, count_by}
 use Rattle.heco_nums.specs.Presets.{modulus_of, slots_of}
 use Rattle.heco_nums.specs.declared.shape.Shape.{Shape}
@@ -28,7 +28,7 @@ term_at ts k = slice_index_or ts k (Input 0)
 
 -- no bound of a gate is above this one
 abbrev pub is_low : ℕ → ℕ → List ℕ → Gate → Bool
-is_low id most bounds g = nat_le (bound_of id bounds g) most
+is_low id most bounds g = nat_le (bound_of id [] bounds g) most
 
 -- The wires carry the term: the linear one as it is, and the other one relinearised, if that is due where it is needed.
 pub record IsCarrier (id : ℕ) (inputs : List Shape) (gates : List Gate) (late due : Bool) (d : Carrier) (v : VectorTerm) : Type 0 where
@@ -47,8 +47,8 @@ pub record IsPlan (id most : ℕ) (inputs : List Shape) (ns : List VNode) (late 
 
 -- The gates are valid and low, the carriers carry the first terms, and the gates are those of these terms.
 pub record Placing (id most : ℕ) (inputs : List Shape) (late : Bool) (dues : List Bool) (ts vs : List VectorTerm) (i : ℕ) (gates : List Gate) (carriers : List Carrier) : Type 0 where
-  pub valid : all_along (is_gate (modulus_of id) (slots_of id)) with_gate (input_parts inputs) gates ≡ true
-  pub low : all_along (is_low id most) (with_bound id) (fresh_bounds id inputs) gates ≡ true
+  pub valid : all_along (is_gate (modulus_of id) (slots_of id) 0) with_gate (input_parts inputs) gates ≡ true
+  pub low : all_along (is_low id most) (with_bound id []) (fresh_bounds id inputs) gates ≡ true
   pub count : length carriers ≡ i
   pub carried : (k : ℕ) → k < i → IsCarrier id inputs gates late (due_at dues k) (slice_index_or carriers k nowhere) (term_at ts k)
   pub kinds_are : map kind gates ≡ flat_map (kinds late ts vs) (take i ts)

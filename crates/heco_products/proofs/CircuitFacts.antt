@@ -1,6 +1,6 @@
 -- What a valid circuit has: few wires, short inputs with names of their own, and short outputs.
-use Rattle.std.proofs.Common.{◌≡◌, ◌≢◌, ◌≤◌, ◌<◌, ◌+◌, ◌-◌, ◌^◌, ◌∙◌, ◌⊎◌, ℕ, zero, suc, Bool, true, false, ◌&&◌, List, [], ◌∷◌, ◌++◌, length, take, get_or, inl, inr, refl, sym, ap, subst, arith, append_assoc, append-nil}
-use Rattle.std.specs.Prelude.{All, AllPairs, not, IsTrue}
+use Rattle.std.proofs.Common.{◌≡◌, ◌≢◌, ◌≤◌, ◌<◌, ◌-◌, ◌^◌, ◌⊎◌, ℕ, zero, suc, Bool, true, false, List, [], ◌∷◌, ◌++◌, length, take, get_or, inl, inr, refl, sym, subst, arith, append_assoc, append-nil}
+use Rattle.std.specs.Prelude.{All, not}
 use Rattle.std.specs.List.{list_any}
 use Rattle.std.specs.Str.{bytes_eq}
 use Rattle.std.specs.Cmp.Lexicographic.{other_text}
@@ -8,8 +8,7 @@ use Rattle.std.proofs.lemmas.Bool.{and_parts, leb-true}
 use Rattle.std.proofs.lemmas.List.{get_or-take, length-take}
 use Rattle.std.proofs.lemmas.List.Folds.{list_any_at}
 use Rattle.heco_circuit.specs.Circuits.{IsCircuit}
-use Rattle.heco_circuit.specs.Plans.{Plan as Circuit, push, is_input, is_output, is_new, is_name, names_input, wire_parts}
-use Rattle.heco_circuit.specs.Validity.{is_between}
+use Rattle.heco_circuit.specs.Plans.{Plan as Circuit, push, is_input, is_output, names_input, wire_parts}
 use Rattle.heco_circuit.specs.declared.gate.Output.{Output}
 use Rattle.heco_fields.specs.Runs.{all_along}
 use Rattle.heco_nums.specs.Presets.{modulus_of, slots_of}
@@ -38,7 +37,7 @@ ports c valid =
     let formed = and_parts _ _ valid.0 in
     let behind = and_parts _ _ formed.1 in
     let inputs = and_parts _ _ behind.0 in
-    let last = and_parts _ _ behind.1 in
+    let last = and_parts _ _ (and_parts _ _ behind.1).1 in
     let gates = and_parts _ _ last.0 in
     let outputs = and_parts _ _ last.1 in
     record {

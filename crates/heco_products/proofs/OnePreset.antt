@@ -1,9 +1,9 @@
 -- There is one preset of a number.
-use Rattle.std.proofs.Common.{◌≡◌, ◌≤◌, ◌∙◌, ℕ, refl, sym, ap, subst, inl, inr, arith}
+use Rattle.std.proofs.Common.{◌≡◌, ◌≤◌, ◌∙◌, ℕ, sym, ap, subst, inl, inr}
 use Rattle.std.proofs.Math.Bridge.{le_prop}
 use Rattle.std.proofs.Math.Nat.{ℕ_set}
 use Rattle.heco_nums.proofs.PresetFacts.{one_of_five}
-use Rattle.heco_nums.specs.Presets.{by_id, degree_of, slots_of, modulus_of, weight_of, error_of, root_of, inverse_of, IsRow}
+use Rattle.heco_nums.specs.Presets.{degree_of, slots_of, modulus_of, weight_of, error_of, root_of, inverse_of, IsRow}
 use Rattle.heco_nums.specs.declared.preset.Preset.{Preset}
 use Rattle.heco_products.specs.PresetRows.{preset_of, row_number}
 

@@ -1,5 +1,5 @@
 -- Values that fit, encrypted inputs and decrypted wires as far as loops have come, and marked wires.
-use Rattle.std.proofs.Common.{◌≡◌, ◌≤◌, ◌<◌, ◌+◌, ◌∙◌, ℕ, zero, suc, Bool, true, false, List, [], ◌∷◌, ◌++◌, length, take, drop, map, get_or, Option, Some, inl, refl, sym, ap, subst, arith, append_assoc, append-nil, drop-cons}
+use Rattle.std.proofs.Common.{◌≡◌, ◌≤◌, ◌<◌, ◌+◌, ◌∙◌, ℕ, zero, suc, Bool, true, false, List, [], ◌∷◌, ◌++◌, length, take, drop, map, get_or, inl, refl, sym, ap, subst, arith, append_assoc, drop-cons}
 use Rattle.std.specs.Prelude.{All, ◌||◌, replicate, nat_lt, ℤ}
 use Rattle.std.proofs.Math.Seq.{take-append_seam}
 use Rattle.std.specs.List.{list_all, range_with_len}

@@ -12,7 +12,7 @@ use Rattle.heco_nums.specs.Presets.{slots_of, modulus_of}
 use Rattle.heco_nums.proofs.Amounts.{any_passing}
 use Rattle.heco_fields.proofs.Bools.{both_true}
 use Rattle.heco_circuit.specs.declared.gate.Gate.{Gate}
-use Rattle.heco_circuit.specs.declared.gate.Gate.TheVariants.{Neg, Add, Sub, Mul, Relin, Scale, Shift, Turn}
+use Rattle.heco_circuit.specs.declared.gate.Gate.TheVariants.{Neg, Add, Sub, Mul, Relin, Scale, Shift, Turn, Weigh}
 use Rattle.heco_circuit.specs.Needs.{needs_relin, turns_by, needed_turns}
 use Rattle.heco_circuit.specs.Plans.{Plan, wire_parts, is_formed}
 use Rattle.heco_circuit.specs.Validity.{is_between, has_parts, is_gate}
@@ -32,6 +32,7 @@ use Rattle.heco_sched.specs.Wirings.{operands_of, wiring}
 use Rattle.heco_sched.proofs.Wired.{circuit_wired}
 use Rattle.heco_run_laws.specs.Runs.{Ciphertext}
 use Rattle.heco_run.specs.declared.error.RunErr.TheVariants as run
+use Rattle.heco_run.specs.Making.{weighers_of}
 use Rattle.heco_run.specs.Refusals.{missing_turn, opening_refusal}
 use Rattle.heco_run.specs.Shapes.{AreTwoParts, Serves}
 use Rattle.heco_run.specs.Works.{IsWork}
@@ -90,6 +91,7 @@ turned_by r (Relin a) h = absurd (cc)
 turned_by r (Scale c a) h = absurd (cc)
 turned_by r (Shift c a) h = absurd (cc)
 turned_by r (Turn s a) h = (a, ap (λ k. Turn k a) (eqb-true s r h))
+turned_by r (Weigh v a) h = absurd (cc)
 
 -- a gate turns by an amount from 1 to N - 1
 amount_there : (p : Plan) (r : ℕ) → IsTrue (is_formed p) → list_any (turns_by r) p.gates ≡ true → (1 ≤ r) × (r ≤ slots_of p.preset - 1)
@@ -98,7 +100,7 @@ amount_there p r formed h =
     let lt = within p.gates s.1.0 s.0 s.1.1 in
     let t = turned_by r s.0 s.1.2 in
     let fits = gate_at_place p s.1.0 s.0 formed lt s.1.1 in
-    let g : is_gate (modulus_of p.preset) (slots_of p.preset) (wire_parts p) (Turn r t.0) ≡ true = rw t.1 at fits.is_gate in
+    let g : is_gate (modulus_of p.preset) (slots_of p.preset) (length p.vectors) (wire_parts p) (Turn r t.0) ≡ true = rw t.1 at fits.is_gate in
     let u = both_true (is_between 1 (slots_of p.preset - 1) r) (has_parts 2 (wire_parts p) t.0) g in
     let v = both_true _ _ u.0 in
     (leb-true _ _ v.0, leb-true _ _ v.1) where
@@ -155,10 +157,10 @@ value_is : {X : Type 0} (b : Bool) (o : Option X) (x : X) → cond b o None ≡ 
 value_is true o x e = (refl, e)
 value_is false o x e = absurd (cc)
 
-pub fresh_work : (p : Plan) (e : Eval) (preset : Preset) (board : Schedule) (store room : List (Option Ciphertext)) (inputs : List Ciphertext) (workers : ℕ) → IsTrue (is_formed p) → preset ≡ e.preset
+pub fresh_work : (p : Plan) (e : Eval) (preset : Preset) (weighers : List (List ℕ)) (board : Schedule) (store room : List (Option Ciphertext)) (inputs : List Ciphertext) (workers : ℕ) → IsTrue (is_formed p) → preset ≡ e.preset → weighers ≡ weighers_of e.preset p.vectors
     → e.preset.id ≡ p.preset → AreTwoParts e.preset.n inputs → opening_refusal p e.needs (length inputs) ≡ None → board ≡ record { circuit = wiring p; standing = fresh (wiring p) workers }
-    → store ≡ held_values board.circuit board.standing (slice_get inputs) → room ≡ replicate workers None → IsWork p e preset board store room
-fresh_work p e preset board store room inputs workers formed same one shaped none board_is store_is room_is =
+    → store ≡ held_values board.circuit board.standing (slice_get inputs) → room ≡ replicate workers None → IsWork p e preset weighers board store room
+fresh_work p e preset weighers board store room inputs workers formed same weighed one shaped none board_is store_is room_is =
     let facts = circuit_wired p formed in
     let few_inputs = facts.few_inputs in
     let few_gates = facts.few_gates in
@@ -167,10 +169,11 @@ fresh_work p e preset board store room inputs workers formed same one shaped non
     let s = fresh c workers in
     let count = (opens p e.needs (length inputs) none).count in
     let store_at : store ≡ held_values c s (slice_get inputs) = store_is ∙ rw board_is refl in
-    let work : IsWork p e preset (record { circuit = c; standing = s }) store room = record {
+    let work : IsWork p e preset weighers (record { circuit = c; standing = s }) store room = record {
       formed = formed;
       serves = serves_all p e (length inputs) formed one none;
       same_preset = same;
+      same_weighers = weighed;
       stocked = record {
         circuit_is = refl;
         wired = facts.wired;

@@ -12,6 +12,7 @@ ghost use Rattle.heco_run.specs.Works.{begun, advanced};
 use crate::bench::Bench;
 use crate::error::{RunErr, WorkErr};
 use crate::opening::{first_store, judge, no_buffers};
+use crate::weighers::each_weigher;
 use heco_bfv::{Ct, Gates};
 use heco_circuit::Circuit;
 use heco_keys::Eval;
@@ -36,11 +37,12 @@ impl<'c> Model for Work<'c> {
 
     ghost view = { λ w. record { circuit = w.circuit.now; eval = w.eval.now; world = record { standing = w.bench.board.standing; store = w.bench.store.items } } };
 
-    ghost invariant = { λ w. IsWork w.circuit.now w.eval.now w.bench.gates.preset w.bench.board w.bench.store.items w.bench.room.items };
+    ghost invariant = { λ w. IsWork w.circuit.now w.eval.now w.bench.gates.preset w.bench.weighers w.bench.board w.bench.store.items w.bench.room.items };
 }
 
 impl<'c> Work<'c> {
-    /// A fresh board and the ciphertexts of the held inputs.
+    /// A fresh board and the ciphertexts of the held inputs. The polynomial of each plain vector is made here, so that no
+    /// finish takes memory.
     pub fn open(
         alloc: Global,
         c: &'c Circuit,
@@ -60,6 +62,7 @@ impl<'c> Work<'c> {
         judge(alloc, c, e, ins.len() as u32)?;
         let board = Board::open(alloc, c, workers)?;
         let gates = Gates::open(alloc, e.preset())?;
+        let weighers = each_weigher(alloc, e.preset(), c)?;
         let wires = c.inputs().len() + c.gates().len();
         let store = first_store(alloc, &board, ins, wires as u32)?;
         let room = no_buffers(alloc, workers)?;
@@ -70,6 +73,7 @@ impl<'c> Work<'c> {
             bench: Bench {
                 board,
                 gates,
+                weighers,
                 store,
                 room,
             },

@@ -1,14 +1,13 @@
 -- What wires carry, with the slots of the first row: from the noise of messages and from their rows.
-use Rattle.std.proofs.Common.{◌≡◌, ◌∙◌, ℕ, ◌<◌, List, [], ◌∷◌, length, map, get_or, refl, sym, ap, ap₂, arith}
+use Rattle.std.proofs.Common.{◌≡◌, ◌∙◌, ℕ, List, [], ◌∷◌, length, map, get_or, refl, sym, ap, ap₂, arith, inl}
 use Rattle.std.specs.List.{AllZip}
 use Rattle.std.proofs.lemmas.List.{get_or-map, length-map}
 use lib.IntN.{ℤ}
 use Rattle.heco_nums.specs.declared.preset.Preset.{Preset}
 use Rattle.heco_fields.specs.Runs.{along}
-use Rattle.heco_circuit.specs.Bounds.{wire_bounds}
-use Rattle.heco_circuit.specs.Plans.{Plan, wire_parts}
+use Rattle.heco_circuit.specs.Bounds.{weights_of, wire_bounds}
+use Rattle.heco_circuit.specs.Plans.{wire_parts}
 use Rattle.heco_meaning.specs.Meanings.{filled, with_wire, wires_of}
-use Rattle.heco_slots.specs.Slots.{decoded}
 use Rattle.heco_slots.specs.Rows.{first_row, row_of}
 use Rattle.heco_slots.proofs.SlotsInRow.{first_is_decoded}
 use Rattle.heco_run_laws.specs.Runs.{Ciphertext, run_of}
@@ -33,11 +32,11 @@ pub circuit_carries : WiresCarryTheirMessages
 unfolding messages_of
 circuit_carries p s keys c rows inputs id valid sparse have many fresh =
     let long : length (map (input_message p) rows) ≡ length c.inputs = length-map rows (input_message p) ∙ many in
-    let keep : AllKeep p s (wire_parts c) (wire_bounds c.preset c.inputs c.gates) (messages_along p c.gates (map (input_message p) rows)) (run_of p keys c.gates inputs) =
+    let keep : AllKeep p s (wire_parts c) (wire_bounds c.preset (weights_of c.preset c.vectors) c.inputs c.gates) (messages_along p c (map (input_message p) rows)) (run_of p keys c inputs) =
     circuit_keeps p s keys c (map (input_message p) rows) inputs id valid sparse have long (fresh_for p s rows inputs fresh) in
-    let means : map (row_of p first_row) (messages_along p c.gates (map (input_message p) rows)) ≡ wires_of c rows =
-    messages_mean p 1 c (map (input_message p) rows) refl id valid long ∙ ap (λ xs. along (with_wire p.t) xs c.gates) (slots_of_inputs p s rows inputs fresh) ∙ wires_mean p c rows id in
-    let as_many : length (wires_of c rows) ≡ length (wire_parts c) = sym (ap length means) ∙ length-map (messages_along p c.gates (map (input_message p) rows)) (row_of p first_row) ∙ keep.as_many_messages in
+    let means : map (row_of p first_row) (messages_along p c (map (input_message p) rows)) ≡ wires_of c rows =
+    messages_mean p 1 c (map (input_message p) rows) (inl refl) id valid long ∙ ap (λ xs. along (with_wire p.t c.vectors) xs c.gates) (slots_of_inputs p s rows inputs fresh) ∙ wires_mean p c rows id in
+    let as_many : length (wires_of c rows) ≡ length (wire_parts c) = sym (ap length means) ∙ length-map (messages_along p c (map (input_message p) rows)) (row_of p first_row) ∙ keep.as_many_messages in
     record {
       as_many_bounds = keep.as_many_bounds;
       as_many_slots = as_many;
@@ -47,7 +46,7 @@ circuit_carries p s keys c rows inputs id valid sparse have many fresh =
       each = λ w h. record {
         shape = (keep.each w h).shape;
         noise = (keep.each w h).noise;
-        means = sym (first_is_decoded p (get_or (messages_along p c.gates (map (input_message p) rows)) w []))
-            ∙ sym (get_or-map (row_of p first_row) (messages_along p c.gates (map (input_message p) rows)) w [] [] (omega (arith, h, keep.as_many_messages))) ∙ ap (λ vs. get_or vs w []) means;
+        means = sym (first_is_decoded p (get_or (messages_along p c (map (input_message p) rows)) w []))
+            ∙ sym (get_or-map (row_of p first_row) (messages_along p c (map (input_message p) rows)) w [] [] (omega (arith, h, keep.as_many_messages))) ∙ ap (λ vs. get_or vs w []) means;
       };
     }

@@ -12,7 +12,7 @@ use Rattle.heco_circuit.specs.Needs.{is_relin, turns_by, needs_relin, needed_tur
 use Rattle.heco_circuit.specs.Plans.{Plan, input_parts}
 use Rattle.heco_circuit.specs.Validity.{has_parts, is_between, is_gate, with_gate}
 use Rattle.heco_circuit.specs.declared.gate.Gate.{Gate}
-use Rattle.heco_circuit.specs.declared.gate.Gate.TheVariants.{Neg, Add, Sub, Mul, Relin, Scale, Shift, Turn}
+use Rattle.heco_circuit.specs.declared.gate.Gate.TheVariants.{Neg, Add, Sub, Mul, Relin, Scale, Shift, Turn, Weigh}
 use Rattle.heco_keys.specs.Made.{purpose, source_of}
 use Rattle.heco_material.specs.KeyLists.{KeyLists, IsKeyMaterial}
 use Rattle.heco_run_laws.specs.Carried.{HasKey, HaveKeys}
@@ -68,13 +68,13 @@ module _ (p : Preset) (c : Plan) (k : KeyLists) (material : IsKeyMaterial p.n p.
   abbrev Occur : List Gate → Type 0
   Occur gates = (test : Gate → Bool) → list_any test gates ≡ true → list_any test c.gates ≡ true
 
-  gates_have : (gates : List Gate) (ps : List ℕ) → all_along (is_gate (modulus_of c.preset) (slots_of c.preset)) with_gate ps gates ≡ true → Occur gates → HaveKeys p k.s (switch_keys p.n c k) gates
+  gates_have : (gates : List Gate) (ps : List ℕ) → all_along (is_gate (modulus_of c.preset) (slots_of c.preset) (length c.vectors)) with_gate ps gates ≡ true → Occur gates → HaveKeys p k.s (switch_keys p.n c k) gates
   gates_have [] ps valid among = tt
   gates_have (g ∷ gates) ps valid among =
-      let both = and_parts (is_gate (modulus_of c.preset) (slots_of c.preset) ps g) (all_along (is_gate (modulus_of c.preset) (slots_of c.preset)) with_gate (with_gate ps g) gates) valid in
+      let both = and_parts (is_gate (modulus_of c.preset) (slots_of c.preset) (length c.vectors) ps g) (all_along (is_gate (modulus_of c.preset) (slots_of c.preset) (length c.vectors)) with_gate (with_gate ps g) gates) valid in
       (gate_has g both.0 (λ test h. among test (or_left (test g) (list_any test gates) h)), gates_have gates (with_gate ps g) both.1 (λ test h. among test (or_right (test g) (list_any test gates) h)))
     where
-      gate_has : (g : Gate) → is_gate (modulus_of c.preset) (slots_of c.preset) ps g ≡ true → ((test : Gate → Bool) → test g ≡ true → list_any test c.gates ≡ true) → HasKey p k.s (switch_keys p.n c k) g
+      gate_has : (g : Gate) → is_gate (modulus_of c.preset) (slots_of c.preset) (length c.vectors) ps g ≡ true → ((test : Gate → Bool) → test g ≡ true → list_any test c.gates ≡ true) → HasKey p k.s (switch_keys p.n c k) g
       gate_has (Neg a) h is = tt
       gate_has (Add a b) h is = tt
       gate_has (Sub a b) h is = tt
@@ -86,6 +86,7 @@ module _ (p : Preset) (c : Plan) (k : KeyLists) (material : IsKeyMaterial p.n p.
           let both = and_parts (is_between 1 (slots_of c.preset - 1) r) (has_parts 2 ps a) h in
           let range = and_parts (nat_le 1 r) (nat_le r (slots_of c.preset - 1)) both.0 in
           turn_key_of r (leb-true 1 r range.0) (leb-true r (slots_of c.preset - 1) range.1) (is (turns_by r) (eq-eqb r r refl))
+      gate_has (Weigh v a) h is = tt
 
 pub circuit_has_keys : (p : Preset) (c : Plan) (k : KeyLists) → IsCircuit c → IsKeyMaterial p.n p.h p.b (needed_keys c) k → HaveKeys p k.s (switch_keys p.n c k) c.gates
 circuit_has_keys p c k valid material = gates_have p c k material c.gates (input_parts c.inputs) (formed_gates c valid) (λ test h. h)

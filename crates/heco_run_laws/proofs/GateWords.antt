@@ -2,7 +2,7 @@
 use Rattle.std.proofs.Common.{◌≡◌, ℕ, ◌<◌, ◌^◌, max, List, [], ◌∷◌, length, get_or, refl, inl, inr, arith}
 use Rattle.std.specs.Prelude.{All}
 use Rattle.std.proofs.lemmas.Bool.{cases_lt}
-use Rattle.std.proofs.lemmas.List.{get_or_default, get_or_past}
+use Rattle.std.proofs.lemmas.List.{get_or_past}
 use Rattle.std.proofs.lemmas.List.FromFn.{get_or-map-range_with_len}
 use Rattle.std.proofs.lemmas.List.Elements.{All-nil, All-cons, All-from_get_or}
 use lib.IntN.{ℤ}
@@ -10,11 +10,10 @@ use Rattle.heco_nums.specs.declared.preset.Preset.{Preset}
 use Rattle.heco_noise_laws.specs.Noise.{round_part}
 use Rattle.heco_ring.specs.Remainders.{reduced}
 use Rattle.heco_keys.proofs.MadeRows.{reduced_words}
-use Rattle.heco_ring.proofs.Reduced.{length-reduced, reduced-lt}
 use Rattle.heco_scheme.specs.Bounds.{AreWords}
 use Rattle.heco_scheme.specs.Ciphertexts.{parts}
 use Rattle.heco_scheme.specs.Encryption.{encrypted}
-use Rattle.heco_scheme.specs.Gates.{added, subtracted, negated, scaled_by, shifted, multiplied, switched, relinearised, turned}
+use Rattle.heco_scheme.specs.Gates.{added, subtracted, negated, scaled_by, times_each, weighed, shifted, multiplied, switched, relinearised, turned}
 use Rattle.heco_scheme.specs.Noise.{q}
 use Rattle.heco_scheme.specs.Rounding.{rounded_all}
 use Rattle.heco_scheme.proofs.PartLaws.{length-parts}
@@ -73,6 +72,14 @@ scaled_words p c a = parts_words p.n (length a) _
 pub length-scaled : (p : Preset) (c : ℕ) (a : List (List ℕ)) → length (scaled_by p c a) ≡ length a
 unfolding scaled_by
 length-scaled p c a = length-parts (length a) _
+
+pub weighed_words : (p : Preset) (v : List ℕ) (a : List (List ℕ)) → All (AreWords p.n) (weighed p v a)
+unfolding weighed times_each
+weighed_words p v a = parts_words p.n (length a) _
+
+pub length-weighed : (p : Preset) (v : List ℕ) (a : List (List ℕ)) → length (weighed p v a) ≡ length a
+unfolding weighed times_each
+length-weighed p v a = length-parts (length a) _
 
 pub shifted_words : (p : Preset) (c : ℕ) (a : List (List ℕ)) → All (AreWords p.n) (shifted p c a)
 unfolding shifted

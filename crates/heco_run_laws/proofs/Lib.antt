@@ -2,6 +2,7 @@ pub mod GateWords
 pub mod GateSteps
 pub mod Wires
 pub mod RowLists
+pub mod CircuitVectors
 pub mod RowsOfMessages
 pub mod Carried
 pub mod FoundKeys

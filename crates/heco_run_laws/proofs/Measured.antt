@@ -4,17 +4,17 @@ use Rattle.std.specs.Prelude.{All}
 use Rattle.std.specs.List.{AllZip}
 use Rattle.std.proofs.lemmas.List.Elements.{All-head, All-tail}
 use Rattle.std.proofs.lemmas.List.FromFn.{get_or-map-range_with_len, length-map-range_with_len}
-use lib.IntN.{ℤ, pos}
+use lib.IntN.{ℤ}
 use Rattle.heco_nums.specs.declared.preset.Preset.{Preset}
 use Rattle.heco_nums.proofs.PresetFacts.{facts}
 use Rattle.heco_noise.specs.Rows as row
-use Rattle.heco_ring.specs.Remainders.{rem, reduced}
-use Rattle.heco_ring.specs.Ring.{at, wholes}
+use Rattle.heco_ring.specs.Remainders.{rem}
+use Rattle.heco_ring.specs.Ring.{wholes}
 use Rattle.heco_ring.specs.Slots.{encode, encode_at}
 use Rattle.heco_ring.proofs.Reduced.{filled}
 use Rattle.heco_ring.proofs.Remainders.{rem-lt, rem_nat}
 use Rattle.heco_ring.proofs.Wrapping.{at-wholes}
-use Rattle.heco_circuit.specs.Bounds.{wire_bounds}
+use Rattle.heco_circuit.specs.Bounds.{weights_of, wire_bounds}
 use Rattle.heco_circuit.specs.Plans.{wire_parts}
 use Rattle.heco_slots.specs.Rows.{encoded_two, encoded_two_at}
 use Rattle.heco_scheme.specs.Encryption.{decrypted}
@@ -43,7 +43,7 @@ unfolding measured_messages
 measured_keeps p s keys c messages inputs id valid sparse have many fresh are =
     let back : map (decrypted p s) inputs ≡ messages = decrypted_back p s messages inputs fresh are in (
       back,
-      subst (λ ms. AllKeep p s (wire_parts c) (wire_bounds c.preset c.inputs c.gates) (messages_along p c.gates ms) (run_of p keys c.gates inputs)) (sym back)
+      subst (λ ms. AllKeep p s (wire_parts c) (wire_bounds c.preset (weights_of c.preset c.vectors) c.inputs c.gates) (messages_along p c ms) (run_of p keys c inputs)) (sym back)
           (circuit_keeps p s keys c messages inputs id valid sparse have many fresh),
     )
 

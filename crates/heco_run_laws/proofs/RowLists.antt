@@ -1,5 +1,5 @@
 -- The rows of messages, as whole lists.
-use Rattle.std.proofs.Common.{◌≡◌, ◌∙◌, ℕ, zero, suc, ◌+◌, ◌-◌, ◌*◌, ◌%◌, ◌^◌, ◌<◌, ◌≤◌, List, [], ◌∷◌, length, map, take, drop, get_or, refl, sym, ap, inl, inr, arith, mod-eq_of_lt, mod-lt}
+use Rattle.std.proofs.Common.{◌≡◌, ◌∙◌, ℕ, zero, suc, ◌+◌, ◌-◌, ◌*◌, ◌%◌, ◌<◌, ◌≤◌, List, [], ◌∷◌, length, map, take, drop, get_or, refl, sym, ap, inl, inr, arith, mod-eq_of_lt, mod-lt}
 use Rattle.std.proofs.lemmas.Bool.{cases_lt}
 use Rattle.std.proofs.lemmas.Nat.{mod-mul-add}
 use Rattle.std.proofs.lemmas.List.{ext_get_or, get_or-map, length-map, length-append, length-drop, length-take-le, get_or_append_left, get_or-append_right, get_or-drop, get_or-take}
@@ -9,7 +9,7 @@ use Rattle.heco_meaning.specs.Meanings.{sums, differences, products, turned}
 use Rattle.heco_slots.specs.Messages as message
 use Rattle.heco_ring.specs.Slots.{value}
 use Rattle.heco_ring.proofs.Remainders.{rem-lt}
-use Rattle.heco_slots.specs.Rows.{slot_in, row_of}
+use Rattle.heco_slots.specs.Rows.{slot_in, row_of, encoded_two}
 use Rattle.heco_slots.proofs.SlotsInRow.{row_long, row_at, in_sum, in_difference, in_opposite, in_multiple, in_raised, in_product, in_turned}
 
 -- ---- lists place by place
@@ -103,6 +103,11 @@ module _ (p : Preset) (e : ℕ) where
       let lt : j < p.slots = omega (arith, long) in
       row_at p e (message.product p m l) j lt ∙ in_product p e m l j odd
       ∙ sym (products_at p.t (row_of p e m) (row_of p e l) j same (omega (arith, row_long p e m)) ∙ rw (row_at p e m j lt, row_at p e l j lt) refl))
+
+  -- in a row in which the vector comes back
+  pub row_weighed : (v m : List ℕ) → e % 2 ≡ 1 → row_of p e (encoded_two p v v) ≡ v → row_of p e (message.weighed p v m) ≡ products p.t v (row_of p e m)
+  unfolding message.weighed
+  row_weighed v m odd back = row_product (encoded_two p v v) m odd ∙ ap (λ xs. products p.t xs (row_of p e m)) back
 
   -- a message whose slots are a function of those of another, one by one
   mapped : (f : ℕ → ℕ) (l m : List ℕ) → ((j : ℕ) → j < p.slots → get_or (row_of p e l) j 0 ≡ f (get_or (row_of p e m) j 0)) → row_of p e l ≡ map f (row_of p e m)

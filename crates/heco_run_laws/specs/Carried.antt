@@ -1,9 +1,9 @@
 -- What the ciphertext of a wire carries: a message with these slots, under noise that is bounded.
-use Rattle.std.specs.Prelude.{◌≡◌, ◌⊎◌, ℕ, ◌+◌, ◌≤◌, ◌<◌, ◌%◌, List, [], ◌∷◌, length, map, slice_get, slice_index, Some, All, ℤ}
+use Rattle.std.specs.Prelude.{◌≡◌, ◌⊎◌, ℕ, ◌+◌, ◌≤◌, ◌<◌, List, [], ◌∷◌, length, map, slice_get, slice_index, Some, All, ℤ}
 use Rattle.std.specs.List.{AllZip}
 use Rattle.heco_nums.specs.declared.preset.Preset.{Preset}
 use Rattle.heco_noise.specs.Rows as row
-use Rattle.heco_circuit.specs.Bounds.{wire_bounds}
+use Rattle.heco_circuit.specs.Bounds.{weights_of, wire_bounds}
 use Rattle.heco_circuit.specs.Circuits.{IsCircuit}
 use Rattle.heco_circuit.specs.Plans.{Plan, wire_parts}
 use Rattle.heco_circuit.specs.declared.gate.Gate.{Gate}
@@ -81,13 +81,17 @@ abbrev pub WiresKeepTheirNoise : Type 0
 WiresKeepTheirNoise =
     (p : Preset) (s : List ℤ) (keys : SwitchKeys) (c : Plan) (messages : List (List ℕ)) (inputs : List Ciphertext) → p.id ≡ c.preset → IsCircuit c → IsSparse p.n p.h s → HaveKeys p s keys c.gates
     → length messages ≡ length c.inputs → AllZip (IsFreshFor p s) messages inputs
-    → AllKeep p s (wire_parts c) (wire_bounds c.preset c.inputs c.gates) (messages_along p c.gates messages) (run_of p keys c.gates inputs)
+    → AllKeep p s (wire_parts c) (wire_bounds c.preset (weights_of c.preset c.vectors) c.inputs c.gates) (messages_along p c messages) (run_of p keys c inputs)
 
--- read in any row, the messages of a valid circuit are the wires that it means: no ciphertext is spoken of
+-- the first row or the second: a plain vector weighs each of these alike, and no other
+abbrev pub IsRow : Preset → ℕ → Type 0
+IsRow p e = (e ≡ first_row) ⊎ (e ≡ second_row p)
+
+-- read in either row, the messages of a valid circuit are the wires that it means: no ciphertext is spoken of
 abbrev pub MessagesMeanTheirRows : Type 0
 MessagesMeanTheirRows =
-    (p : Preset) (e : ℕ) (c : Plan) (messages : List (List ℕ)) → e % 2 ≡ 1 → p.id ≡ c.preset → IsCircuit c → length messages ≡ length c.inputs
-    → map (row_of p e) (messages_along p c.gates messages) ≡ along (with_wire p.t) (map (row_of p e) messages) c.gates
+    (p : Preset) (e : ℕ) (c : Plan) (messages : List (List ℕ)) → IsRow p e → p.id ≡ c.preset → IsCircuit c → length messages ≡ length c.inputs
+    → map (row_of p e) (messages_along p c messages) ≡ along (with_wire p.t c.vectors) (map (row_of p e) messages) c.gates
 
 -- the input messages of two rows of values, each filled with zeros
 abbrev pub two_row_messages : Preset → List (List ℕ) → List (List ℕ) → List (List ℕ)
@@ -103,8 +107,8 @@ FitsRow p v = (length v ≤ p.slots) × All (λ x. x < p.t) v
 abbrev pub RowsAreIndependent : Type 0
 RowsAreIndependent =
     (p : Preset) (c : Plan) (vs ws : List (List ℕ)) → p.id ≡ c.preset → IsCircuit c → length vs ≡ length c.inputs → length ws ≡ length c.inputs → All (FitsRow p) vs → All (FitsRow p) ws
-    → (map (row_of p first_row) (messages_along p c.gates (two_row_messages p vs ws)) ≡ wires_of c vs)
-    × (map (row_of p (second_row p)) (messages_along p c.gates (two_row_messages p vs ws)) ≡ wires_of c ws)
+    → (map (row_of p first_row) (messages_along p c (two_row_messages p vs ws)) ≡ wires_of c vs)
+    × (map (row_of p (second_row p)) (messages_along p c (two_row_messages p vs ws)) ≡ wires_of c ws)
 
 -- in the run of a valid circuit by keys of the secret, where the inputs carry these rows of values, each wire carries its
 -- message, whose slots are the circuit's meaning, with at most its written bound of noise
@@ -112,20 +116,20 @@ abbrev pub WiresCarryTheirMessages : Type 0
 WiresCarryTheirMessages =
     (p : Preset) (s : List ℤ) (keys : SwitchKeys) (c : Plan) (rows : List (List ℕ)) (inputs : List Ciphertext) → p.id ≡ c.preset → IsCircuit c → IsSparse p.n p.h s → HaveKeys p s keys c.gates
     → length rows ≡ length c.inputs → AllZip (IsFresh p s) rows inputs
-    → AllCarry p s (wire_parts c) (wire_bounds c.preset c.inputs c.gates) (wires_of c rows) (messages_of p c.gates rows) (run_of p keys c.gates inputs)
+    → AllCarry p s (wire_parts c) (wire_bounds c.preset (weights_of c.preset c.vectors) c.inputs c.gates) (wires_of c rows) (messages_of p c rows) (run_of p keys c inputs)
 
 -- in the run of a valid circuit by any keys from inputs of two parts, each wire has the parts that the circuit says
 abbrev pub WiresHaveTheirParts : Type 0
 WiresHaveTheirParts =
     (p : Preset) (keys : SwitchKeys) (c : Plan) (inputs : List Ciphertext) → IsCircuit c → length inputs ≡ length c.inputs → All (HasShape p.n 2) inputs
-    → AllShaped p.n (wire_parts c) (run_of p keys c.gates inputs)
+    → AllShaped p.n (wire_parts c) (run_of p keys c inputs)
 
 -- these are the ciphertexts of the wires: first the inputs, and then what each gate makes of the wires before its own
-pub record IsInOrder (p : Preset) (keys : SwitchKeys) (gates : List Gate) (inputs wires : List Ciphertext) : Type 0 where
-  pub count : length wires ≡ length inputs + length gates
+pub record IsInOrder (p : Preset) (keys : SwitchKeys) (c : Plan) (inputs wires : List Ciphertext) : Type 0 where
+  pub count : length wires ≡ length inputs + length c.gates
   pub first : (w : ℕ) → w < length inputs → ciphertext_at wires w ≡ ciphertext_at inputs w
-  pub next : (g : ℕ) (gate : Gate) → slice_get gates g ≡ Some gate → ciphertext_at wires (length inputs + g) ≡ made_by p keys (ciphertext_at wires) gate
+  pub next : (g : ℕ) (gate : Gate) → slice_get c.gates g ≡ Some gate → ciphertext_at wires (length inputs + g) ≡ made_by p keys c.vectors (ciphertext_at wires) gate
 
 -- the run of a valid circuit
 abbrev pub RunsAreInOrder : Type 0
-RunsAreInOrder = (p : Preset) (keys : SwitchKeys) (c : Plan) (inputs : List Ciphertext) → IsCircuit c → length inputs ≡ length c.inputs → IsInOrder p keys c.gates inputs (run_of p keys c.gates inputs)
+RunsAreInOrder = (p : Preset) (keys : SwitchKeys) (c : Plan) (inputs : List Ciphertext) → IsCircuit c → length inputs ≡ length c.inputs → IsInOrder p keys c inputs (run_of p keys c inputs)

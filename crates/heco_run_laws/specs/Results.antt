@@ -29,4 +29,4 @@ result_wires c = filter (is_output_wire c.outputs) (range_with_len 0 (wire_count
 
 -- those of the run from these inputs under these switch keys
 unfoldable pub results_of : Preset → SwitchKeys → Circuit → List Ciphertext → List Ciphertext
-results_of p keys c inputs = map (ciphertext_at (run_of p keys c.gates inputs)) (result_wires c)
+results_of p keys c inputs = map (ciphertext_at (run_of p keys c inputs)) (result_wires c)

@@ -1,9 +1,9 @@
-ghost use Rattle.std.specs.Prelude.{◌≡◌, ◌≤◌, ◌-◌, ◌*◌, ◌+◌, ◌%◌, ℕ, List, map};
+ghost use Rattle.std.specs.Prelude.{◌≡◌, ◌≤◌, ◌<◌, ◌-◌, ◌*◌, ◌+◌, ◌%◌, ℕ, List, All, length, map};
 ghost use Rattle.heco_meaning.specs.Meanings.{sums, differences, products, turned};
 ghost use Rattle.heco_nums.specs.declared.preset.Preset.{Preset};
 ghost use Rattle.heco_slots.specs.Messages as message;
 ghost use Rattle.heco_slots.specs.Rows.{row_of};
-ghost use Rattle.heco_run_laws.specs.Carried.{MessagesMeanTheirRows, RowsAreIndependent, RunsAreInOrder, WiresCarryTheirMessages, WiresHaveTheirParts, WiresKeepTheirNoise};
+ghost use Rattle.heco_run_laws.specs.Carried.{IsRow, MessagesMeanTheirRows, RowsAreIndependent, RunsAreInOrder, WiresCarryTheirMessages, WiresHaveTheirParts, WiresKeepTheirNoise};
 ghost use Rattle.heco_run_laws.specs.CircuitKeys.{MadeKeysAreForTheGates};
 ghost use Rattle.heco_run_laws.specs.DecryptedRows.{EncryptionsAreFresh, RowsDecryptToTheMeaning, TwoRowsDecryptApart};
 ghost use Rattle.heco_run_laws.specs.Measured.{EncodingsAreMessages, MeasuredNoisesKeepToTheirBounds};
@@ -15,7 +15,7 @@ pub fn wires_keep_their_noise()
     ensures { WiresKeepTheirNoise }
 {}
 
-/// Read in any row, the messages of a valid circuit are the wires that it means.
+/// Read in the first row or in the second, the messages of a valid circuit are the wires that it means.
 pub fn messages_mean_their_rows()
     ensures { MessagesMeanTheirRows }
 {}
@@ -78,8 +78,9 @@ pub fn made_keys_are_for_the_gates()
     ensures { MadeKeysAreForTheGates }
 {}
 
-/// What is done to a message is done to each of its slots, in every row alike; a turn turns each row.
-#[tactic(auto, using(crate::proofs::RowLists::row_sum, crate::proofs::RowLists::row_difference, crate::proofs::RowLists::row_product, crate::proofs::RowLists::row_opposite, crate::proofs::RowLists::row_multiple, crate::proofs::RowLists::row_raised, crate::proofs::RowLists::row_turned))]
+/// What is done to a message is done to each of its slots, in every row alike; a turn turns each row. A plain vector weighs
+/// the first row and the second, and these two alone.
+#[tactic(auto, using(crate::proofs::RowLists::row_sum, crate::proofs::RowLists::row_difference, crate::proofs::RowLists::row_product, crate::proofs::RowLists::row_opposite, crate::proofs::RowLists::row_multiple, crate::proofs::RowLists::row_raised, crate::proofs::RowLists::row_turned, crate::proofs::RowsOfMessages::vector_weighs))]
 pub fn rows_of_messages()
     ensures sum { (p : Preset) (e : ℕ) (m l : List ℕ) → row_of p e (message.sum p m l) ≡ sums p.t (row_of p e m) (row_of p e l) }
     ensures difference { (p : Preset) (e : ℕ) (m l : List ℕ) → row_of p e (message.difference p m l) ≡ differences p.t (row_of p e m) (row_of p e l) }
@@ -88,4 +89,5 @@ pub fn rows_of_messages()
     ensures multiple { (p : Preset) (e c : ℕ) (m : List ℕ) → row_of p e (message.multiple p c m) ≡ map (λ x. (c * x) % p.t) (row_of p e m) }
     ensures shift { (p : Preset) (e c : ℕ) (m : List ℕ) → row_of p e (message.raised p c m) ≡ map (λ x. (x + c) % p.t) (row_of p e m) }
     ensures turn { (p : Preset) (e r : ℕ) (m : List ℕ) → e % 2 ≡ 1 → r ≤ p.slots → row_of p e (message.turned p r m) ≡ turned r (row_of p e m) }
+    ensures weighed { (p : Preset) (e : ℕ) (v m : List ℕ) → IsRow p e → length v ≡ p.slots → All (λ x. x < p.t) v → row_of p e (message.weighed p v m) ≡ products p.t v (row_of p e m) }
 {}

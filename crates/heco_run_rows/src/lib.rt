@@ -12,4 +12,6 @@ mod runs;
 #[cfg(test)]
 mod steps;
 #[cfg(test)]
+mod weighed;
+#[cfg(test)]
 mod works;

@@ -47,19 +47,20 @@ fn agrees(alloc: Global, g: &Given, ran: &Ran, count: u32, wire: u32) -> Result<
     Ok(takes_all(&mut work, ran.events.as_slice()) && keeps(&work, ran.outs.as_slice(), wire))
 }
 
-fn last_agrees_on(alloc: Global, g: &Given) -> Result<bool, Fail> {
-    let ran = led_by_last(alloc, g, 2)?;
-    agrees(alloc, g, &ran, 2, 9)
+fn last_agrees_on(alloc: Global, g: &Given, count: u32, wire: u32) -> Result<bool, Fail> {
+    let ran = led_by_last(alloc, g, count)?;
+    agrees(alloc, g, &ran, count, wire)
 }
 
-fn last_agrees(alloc: Global) -> Result<bool, Fail> {
-    let g = given_by(alloc, "dot", "dot")?;
-    last_agrees_on(alloc, &g)
+fn last_agrees(alloc: Global, name: &str, count: u32, wire: u32) -> Result<bool, Fail> {
+    let g = given_by(alloc, name, name)?;
+    last_agrees_on(alloc, &g, count, wire)
 }
 
 #[test]
 fn a_work_that_takes_the_events_of_a_run_keeps_its_result(rt: HostRuntime) -> Result<(), Fail> {
-    assert!(rt; last_agrees(rt.alloc())?);
+    assert!(rt; last_agrees(rt.alloc(), "dot", 2, 9)?);
+    assert!(rt; last_agrees(rt.alloc(), "weighed product", 1, 6)?);
     Ok(())
 }
 

@@ -6,7 +6,7 @@ use Rattle.heco_nums.specs.Presets.{modulus_of, slots_of}
 use Rattle.heco_nums.specs.declared.shape.Shape.{Shape}
 use Rattle.heco_fields.specs.Runs.{all_along}
 use Rattle.heco_circuit.specs.Circuits.{IsCircuit}
-use Rattle.heco_circuit.specs.Plans.{Plan, push, is_cell, is_output, is_name, wire_parts, are_inputs, are_gates, are_outputs}
+use Rattle.heco_circuit.specs.Plans.{Plan, push, is_cell, is_output, is_name, wire_parts, are_inputs, are_vectors, are_gates, are_outputs}
 use Rattle.heco_circuit.specs.Validity.{is_between}
 use Rattle.heco_circuit.specs.declared.gate.Cell.{Cell}
 use Rattle.heco_circuit.specs.declared.gate.Cell.TheVariants.{Number, Slot}
@@ -39,8 +39,8 @@ valid_cells t slots inputs parts before (o ∷ outputs) h =
 
 circuit_cells : (c : Plan) → IsCircuit c → list_all (is_cell (modulus_of c.preset) (slots_of c.preset) (wire_parts c)) (all_cells c) ≡ true
 circuit_cells c valid =
-    let behind = and_parts (is_between 1 5 c.preset) (are_inputs c && (are_gates c && are_outputs c)) valid.0 in
-    let last = and_parts (are_inputs c) (are_gates c && are_outputs c) behind.1 in
+    let behind = and_parts (is_between 1 5 c.preset) (are_inputs c && (are_vectors c && (are_gates c && are_outputs c))) valid.0 in
+    let last = and_parts (are_vectors c) (are_gates c && are_outputs c) (and_parts (are_inputs c) (are_vectors c && (are_gates c && are_outputs c)) behind.1).1 in
     let outputs = and_parts (are_gates c) (are_outputs c) last.1 in
     let each = and_parts (nat_le (length c.outputs) (256 - length c.inputs)) (all_along (is_output (modulus_of c.preset) (slots_of c.preset) c.inputs (wire_parts c)) push [] c.outputs) outputs.1 in
     valid_cells (modulus_of c.preset) (slots_of c.preset) c.inputs (wire_parts c) [] c.outputs each.1

@@ -1,4 +1,4 @@
-use Rattle.std.proofs.Common.{◌≡◌, false, ◌||◌, ap}
+use Rattle.std.proofs.Common.{false, ◌||◌, ap}
 use Rattle.std.specs.List.{list_any}
 use Rattle.std.proofs.lemmas.List.{get_or-replicate}
 use Rattle.heco_circuit.specs.Needs.{turns_by}

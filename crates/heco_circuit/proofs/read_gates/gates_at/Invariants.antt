@@ -8,6 +8,6 @@ use Rattle.heco_circuit.proofs.read_gates.gates_at.Given as goal
 
 abbrev pub invariant-loop : goal.invariant-loop
 invariant-loop l = record {
-  read : with_front l.gates (reading (many (gate l.version l.t l.slots) with_gate (l.count - l.counter) l.parts) l.rest) ≡ reading (many (gate l.version l.t l.slots) with_gate l.count l.fn.inputs) l.bytes;
+  read : with_front l.gates (reading (many (gate l.version l.t l.slots l.vectors) with_gate (l.count - l.counter) l.parts) l.rest) ≡ reading (many (gate l.version l.t l.slots l.vectors) with_gate l.count l.fn.inputs) l.bytes;
   parts : l.parts ≡ along with_gate l.fn.inputs l.gates;
 }

@@ -1,4 +1,4 @@
-use Rattle.std.proofs.Common.{◌≡◌, ◌≤◌, sym, ◌∙◌, length, arith}
+use Rattle.std.proofs.Common.{sym, ◌∙◌, length, arith}
 use Rattle.heco_circuit.specs.Circuits.{most}
 use Rattle.heco_fields.proofs.FileLaws.{take_all, drop_all}
 use Rattle.heco_circuit.proofs.reading.cut.Goals as goal

@@ -21,7 +21,7 @@ measure_all-requires-clause-entries c =
     let valid = c.preset-valid.ensures.valid in
     let serves = serves_all p e (length ins) valid.0 c.requires.preset c.requires.keys in
     let many = (opens p e.needs (length ins) c.requires.keys).count in
-    let run = run_of e.preset (keys_of e) p.gates ins in
+    let run = run_of e.preset (keys_of e) p ins in
     let long = length-run p e ins valid serves many in
     let store = c.in_ok-store.store.items in
     subst (λ (q : Preset). AreEntries q.n store) (sym c.requires.one_preset) (are_entries p e.preset.n run store long c.in_ok-store.ensures)
@@ -34,7 +34,7 @@ returns c =
     let valid = c.preset-valid.ensures.valid in
     let serves = serves_all p e (length ins) valid.0 c.requires.preset c.requires.keys in
     let many = (opens p e.needs (length ins) c.requires.keys).count in
-    let run = run_of e.preset (keys_of e) p.gates ins in
+    let run = run_of e.preset (keys_of e) p ins in
     let long = length-run p e ins valid serves many in
     let store = c.in_ok-store.store.items in
     let s = c.args.s.now.places in

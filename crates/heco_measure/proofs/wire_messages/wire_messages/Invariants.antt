@@ -10,6 +10,6 @@ use Rattle.heco_measure.proofs.wire_messages.wire_messages.Given as goal
 abbrev pub invariant-loop-gate : goal.invariant-loop-gate
 invariant-loop-gate l = record {
   count : length l.messages.items ≡ length l.c.inputs + l.gate-index;
-  whole : along (with_message l.s.preset) l.messages.items (drop l.gate-index l.gates) ≡ measured_messages l.s.preset l.s.places l.c l.ins;
+  whole : along (with_message l.s.preset l.c.vectors) l.messages.items (drop l.gate-index l.gates) ≡ measured_messages l.s.preset l.s.places l.c l.ins;
   plaintexts : All (IsPlaintext l.s.preset) l.messages.items;
 }

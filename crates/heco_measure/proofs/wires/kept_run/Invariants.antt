@@ -7,5 +7,5 @@ use Rattle.heco_measure.proofs.wires.kept_run.Given as goal
 abbrev pub invariant-loop-gate : goal.invariant-loop-gate
 invariant-loop-gate l = record {
   room : l.room.preset ≡ l.e.preset;
-  store : HasFirst l.c l.e.preset.n (run_of l.e.preset (keys_of l.e) l.c.gates l.ins) (length l.c.inputs + l.gate-index) l.store.items;
+  store : HasFirst l.c l.e.preset.n (run_of l.e.preset (keys_of l.e) l.c l.ins) (length l.c.inputs + l.gate-index) l.store.items;
 }

@@ -1,4 +1,4 @@
-use Rattle.std.proofs.Common.{◌≡◌, ◌++◌, length, drop}
+use Rattle.std.proofs.Common.{◌≡◌, ◌++◌, drop}
 use Rattle.std.specs.Prelude.{All}
 use Rattle.heco_scheme.specs.Ciphertexts.{IsCiphertext}
 use Rattle.heco_products.specs.Decrypting.{decrypted_wires}

@@ -1,8 +1,8 @@
-use Rattle.std.proofs.Common.{◌≡◌, ◌∙◌, Bool, List, ℕ, ap, map}
+use Rattle.std.proofs.Common.{◌∙◌, Bool, List, ℕ, ap, map}
 use Rattle.heco_circuit.specs.Plans.{shape_of}
 use Rattle.heco_meaning.specs.Meanings.{output_values}
 use Rattle.heco_texts.specs.Outputs.{output_text}
-use Rattle.heco_products.specs.Decrypting.{row_text, output_wire_count, output_wires, decrypted_wires}
+use Rattle.heco_products.specs.Decrypting.{row_text, output_wire_count, decrypted_wires}
 use Rattle.heco_products.proofs.Products.{are_ciphertexts}
 use Rattle.heco_slots.specs.Rows.{first_row, second_row}
 use Rattle.heco_products.proofs.both_rows.rows_texts.Goals as goal

@@ -1,4 +1,4 @@
-use Rattle.std.proofs.Common.{◌≡◌, ◌∙◌, ◌≤◌, ap, sym, subst, length, arith}
+use Rattle.std.proofs.Common.{◌≡◌, ◌∙◌, ap, sym, subst, length, arith}
 use Rattle.std.specs.Prelude.{All, IfOk}
 use Rattle.heco_key_files.specs.KeyFiles.{lists_of}
 use Rattle.heco_run_laws.specs.Carried.{FitsRow}

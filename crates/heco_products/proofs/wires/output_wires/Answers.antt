@@ -1,4 +1,4 @@
-use Rattle.std.proofs.Common.{◌≡◌, ◌+◌, ◌≤◌, ◌<◌, ◌^◌, ◌∙◌, false, ap, sym, subst, length, arith}
+use Rattle.std.proofs.Common.{◌≡◌, ◌+◌, ◌∙◌, false, ap, length, arith}
 use Rattle.std.specs.Prelude.{replicate}
 use Rattle.heco_run_laws.specs.Results.{wire_count}
 use Rattle.heco_products.proofs.CircuitFacts.{few_inputs, few_gates}
