@@ -25,6 +25,24 @@ pub fn filled(alloc: Global, p: &Preset, seed: u64) -> Result<Poly, Memory>
     Ok(out)
 }
 
+/// Two such polynomials.
+#[derive(Drop)]
+pub struct Pair {
+    pub first: Poly,
+    pub second: Poly,
+}
+
+impl Pair {
+    pub fn filled(alloc: Global, p: &Preset, seeds: (u64, u64)) -> Result<Pair, Memory>
+        ensures first { IfOk result (λ c. length c.first ≡ p.now.n) }
+        ensures second { IfOk result (λ c. length c.second ≡ p.now.n) }
+    {
+        let first = filled(alloc, p, seeds.0)?;
+        let second = filled(alloc, p, seeds.1)?;
+        Ok(Pair { first, second })
+    }
+}
+
 /// Words as one number.
 pub fn sum(words: &[u64]) -> u64 {
     let mut sum = 0u64;

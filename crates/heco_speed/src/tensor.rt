@@ -1,73 +1,79 @@
-ghost use Rattle.std.specs.Prelude.{◌≡◌, length};
+ghost use Rattle.std.specs.Prelude.{◌≡◌, IfOk};
+ghost use Rattle.heco_speed.specs.Parts.{HasParts};
 
-use crate::fill::{filled, sum};
+use crate::ciphertext::{filled_ciphertext, print_parts};
+use crate::kernel::Kernel;
+use heco_bfv::{Ct, Gates};
 use heco_nums::{Memory, Preset};
-use heco_poly::Poly;
-use heco_wide::Tensor;
 use std::alloc::Global;
+use std::io;
 
-/// Two ciphertexts, and room for their product.
+/// Two ciphertexts.
 #[derive(Drop)]
-pub struct Tensors {
-    n: u32,
-    tensor: Tensor,
-    c0: Poly,
-    c1: Poly,
-    d0: Poly,
-    d1: Poly,
-    o0: Poly,
-    o1: Poly,
-    o2: Poly,
-    ghost degree: { tensor.preset.n ≡ n },
-    ghost c0_long: { length c0 ≡ n },
-    ghost c1_long: { length c1 ≡ n },
-    ghost d0_long: { length d0 ≡ n },
-    ghost d1_long: { length d1 ≡ n },
+struct Factors {
+    first: Ct,
+    second: Ct,
 }
 
-impl Tensors {
-    pub fn open(alloc: Global, p: &Preset) -> Result<Tensors, Memory> {
-        let tensor = Tensor::open(alloc, p)?;
-        let c0 = filled(alloc, p, 1)?;
-        let c1 = filled(alloc, p, 2)?;
-        let d0 = filled(alloc, p, 3)?;
-        let d1 = filled(alloc, p, 4)?;
-        let o0 = Poly::zero(alloc, p)?;
-        let o1 = Poly::zero(alloc, p)?;
-        let o2 = Poly::zero(alloc, p)?;
-        Ok(Tensors {
-            n: p.n,
-            tensor,
-            c0,
-            c1,
-            d0,
-            d1,
-            o0,
-            o1,
-            o2,
+impl Factors {
+    fn filled(alloc: Global, p: &Preset) -> Result<Factors, Memory>
+        ensures first { IfOk result (λ c. HasParts 2 p.now.n c.first) }
+        ensures second { IfOk result (λ c. HasParts 2 p.now.n c.second) }
+    {
+        let first = filled_ciphertext(alloc, p, (1, 2))?;
+        let second = filled_ciphertext(alloc, p, (3, 4))?;
+        Ok(Factors { first, second })
+    }
+}
+
+/// The gates, with room for one product.
+#[derive(Drop)]
+struct Multiplier {
+    gates: Gates,
+    product: Ct,
+    ghost three: { HasParts 3 gates.preset.n product },
+}
+
+impl Multiplier {
+    fn open(alloc: Global, p: &Preset) -> Result<Multiplier, Memory>
+        ensures { IfOk result (λ m. m.gates.preset ≡ p.now) }
+    {
+        let gates = Gates::open(alloc, p)?;
+        let product = Ct::zero(alloc, p, 3)?;
+        Ok(Multiplier { gates, product })
+    }
+}
+
+/// A product of ciphertexts.
+#[derive(Drop)]
+pub struct Tensor {
+    factors: Factors,
+    multiplier: Multiplier,
+    ghost first: { HasParts 2 multiplier.gates.preset.n factors.first },
+    ghost second: { HasParts 2 multiplier.gates.preset.n factors.second },
+}
+
+impl Tensor {
+    pub fn open(alloc: Global, p: &Preset) -> Result<Tensor, Memory> {
+        let factors = Factors::filled(alloc, p)?;
+        let multiplier = Multiplier::open(alloc, p)?;
+        Ok(Tensor {
+            factors,
+            multiplier,
         })
     }
+}
 
-    pub fn multiply(&mut self) {
-        let n = self.n;
-        if self.o0.len() == n && self.o1.len() == n && self.o2.len() == n {
-            self.tensor.product(
-                &self.c0,
-                &self.c1,
-                &self.d0,
-                &self.d1,
-                &mut self.o0,
-                &mut self.o1,
-                &mut self.o2,
-            );
-        }
+impl Kernel for Tensor {
+    fn run(&mut self) {
+        self.multiplier.gates.mul(
+            &self.factors.first,
+            &self.factors.second,
+            &mut self.multiplier.product,
+        );
     }
 
-    pub fn sums(&self) -> (u64, u64, u64) {
-        (
-            sum(self.o0.as_slice()),
-            sum(self.o1.as_slice()),
-            sum(self.o2.as_slice()),
-        )
+    fn print(&self, rt: &HostRuntime, name: &str) -> io::Result<()> {
+        print_parts(rt, name, &self.multiplier.product)
     }
 }
