@@ -37,7 +37,7 @@ for _ in $(seq "$rounds"); do
   for program in $programs; do "$work/$program" time 20 | sed "s/^/$program /"; done
   "$ours" 20 | sed 's/^/ours /'
   start=$(date +%s%N)
-  "$top/.build/heco" sample 7 > /dev/null
+  GLIBC_TUNABLES=glibc.malloc.hugetlb=1 "$top/.build/heco" sample 7 > /dev/null
   echo "ours sample $(($(date +%s%N) - start))"
 done > "$work/times"
 echo "load $(cut -d' ' -f1-3 /proc/loadavg), $(sed -n 's/^model name.*: //p' /proc/cpuinfo | head -1)"
