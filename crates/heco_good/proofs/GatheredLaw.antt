@@ -1,7 +1,6 @@
 -- A good circuit is good when it is gathered.
-use Rattle.std.proofs.Common.{◌≡◌, ◌∙◌, ℕ, ◌≤◌, Bool, true, false, List, [], ◌∷◌, length, map, Ok, refl, sym, ap, subst, arith}
+use Rattle.std.proofs.Common.{◌≡◌, ◌∙◌, ℕ, true, List, [], ◌∷◌, length, Ok, refl, sym, ap, subst, arith}
 use Rattle.std.specs.Prelude.{All}
-use Rattle.std.specs.List.{count_by}
 use Rattle.std.proofs.lemmas.Bool.{eq-eqb}
 use Rattle.std.proofs.lemmas.List.Elements.{All-drop}
 use Rattle.heco_nums.specs.declared.shape.Shape.{Shape}
@@ -10,7 +9,6 @@ use Rattle.heco_noise.specs.Rows.{IsQuiet}
 use Rattle.heco_circuit.specs.Circuits.{IsCircuit}
 use Rattle.heco_circuit.specs.Plans.{Plan}
 use Rattle.heco_circuit.proofs.QuietLaw.{quiet_law}
-use Rattle.heco_meaning.specs.Meanings.{meaning_of}
 use Rattle.heco_texts.specs.Answers.{HaveFit}
 use Rattle.heco_written.specs.WrittenForm.{Home}
 use Rattle.heco_thrift.specs.Thrift.{bounds_of, gate_bounds, weighs, bounds_where, IsThrifty}
@@ -77,4 +75,4 @@ module _ (source : Source) (c : Plan) (g : Good source c) (room : HasRoom c) whe
   }
 
   pub gathered_is_good : IsCircuitOf source (gathered c)
-  gathered_is_good = record { good = still_good; nothing_found = λ a. nothing_more c a g.valid; }
+  gathered_is_good = record { good = still_good; nothing_found = λ a. nothing_more c a g.valid }

@@ -1,5 +1,5 @@
 -- Where gathering chooses no wire the circuit stays as it was, and where it chooses one the circuit weighs.
-use Rattle.std.proofs.Common.{◌≡◌, ◌∙◌, ℕ, zero, suc, ◌+◌, Bool, true, false, List, [], ◌∷◌, length, map, refl, sym, ap, ap₂, arith}
+use Rattle.std.proofs.Common.{◌≡◌, ◌∙◌, ℕ, zero, suc, ◌+◌, Bool, true, false, List, [], ◌∷◌, ◌++◌, length, map, refl, sym, ap, ap₂, arith}
 use Rattle.std.specs.Prelude.{Option, Some, None, filter_map}
 use Rattle.std.specs.List.{enumerate_from, cons_option}
 use Rattle.std.proofs.lemmas.List.{append-nil}
@@ -13,7 +13,7 @@ use Rattle.heco_thrift.specs.Thrift.{is_weighing, weighs}
 use Rattle.heco_rewrites.specs.Needed.{has}
 use Rattle.heco_rewrites.specs.Wires.{over, cell_over, output_over, maker}
 use Rattle.heco_plainvec.specs.Gathering.{cell_only, vector, chosen}
-use Rattle.heco_plainvec.specs.Gathered.{source_where, source, first_multiple, vector_number, stays, place, name, gate_where, gathered_gate, gathered_gates, gathered_vectors, gathered}
+use Rattle.heco_plainvec.specs.Gathered.{source_where, source, first_multiple, vector_number, stays, place, name, gathered_gate, gathered_gates, gathered_vectors, gathered}
 use Rattle.heco_plainvec.proofs.Leaders.{source_stays, first_source, first_stays, source_is}
 use Rattle.heco_plainvec.proofs.Numbered.{any_there, there}
 use Rattle.heco_plainvec.proofs.Places.{place_kept, name_itself}
