@@ -1,5 +1,4 @@
 use Rattle.std.proofs.Common.{arith}
-use Rattle.std.proofs.lemmas.Result.{err_from_is_err_and}
 use Rattle.heco_good.proofs.GatheredLaw.{gathered_is_good}
 use Rattle.heco_plainvec.proofs.KeptLaw.{keeps_the_rest}
 use Rattle.heco_compile.proofs.FileLength.{has_room}
