@@ -1,4 +1,4 @@
--- A good circuit of a text is one that compiling may give.
+-- A circuit of a typed text is one that compiling the text may give.
 use Rattle.std.specs.Prelude.{IfOk, OnOk}
 use Rattle.std.proofs.Common.{ℕ, ◌+◌, ◌^◌, ◌≤◌, true, false, List, length, Result, Ok, Err, arith}
 use Rattle.std.specs.List.{All, sum_by}
@@ -9,7 +9,7 @@ use Rattle.heco_types.specs.Shapes.{shapes_of}
 use Rattle.heco_types.specs.Typing.{IsTyped, IsWithin}
 use Rattle.heco_unroll.proofs.Shapes.{few_elements}
 use Rattle.heco_good.specs.Accepted.{IsAccepted}
-use Rattle.heco_good.specs.Good.{Good}
+use Rattle.heco_good.specs.Compiled.{IsCircuitOf}
 use Rattle.heco_compile.specs.Compiling.{IsCompiled}
 use Rattle.heco_compile.specs.declared.error.CompileErr.{CompileErr}
 use Rattle.heco_compile.proofs.FileLength.{file_short}
@@ -17,8 +17,8 @@ use Rattle.heco_compile.proofs.Names.{shape_bytes, few_names}
 use Rattle.heco_compile.proofs.TypedPorts.{typed_ports}
 
 module _ (text : List ℕ) (s : Source) (is : IsSource text s) (typed : IsTyped s) (within : All (IsWithin 4096) (shapes_of true s.ports)) where
-  one_compiled : (c : Plan) → IsAccepted s → Good s c → length c.gates ≤ 20447232 → IsCompiled text c
-  one_compiled c accepted good few =
+  one_compiled : (c : Plan) → IsAccepted s → IsCircuitOf s c → length c.gates ≤ 20447232 → IsCompiled text c
+  one_compiled c accepted of few =
       let ports : length (shapes_of false s.ports) + length (shapes_of true s.ports) ≤ 256 = (typed_ports s typed).few in
       let names : shape_bytes (shapes_of false s.ports) + shape_bytes (shapes_of true s.ports) ≤ 2 ^ 20 = omega (arith, few_names text s is.tree, is.short) in
       let elements : sum_by (λ o. o.len) (shapes_of true s.ports) ≤ 2 ^ 20 = few_elements s typed within in
@@ -26,10 +26,10 @@ module _ (text : List ℕ) (s : Source) (is : IsSource text s) (typed : IsTyped 
         source = s;
         is = is;
         accepted = accepted;
-        good = good;
-        short = file_short c (shapes_of true s.ports) good.valid good.outputs few (rw good.inputs ports) (rw good.inputs names) elements;
+        circuit = of;
+        short = file_short c (shapes_of true s.ports) of.good.valid of.good.outputs few (rw of.good.inputs ports) (rw of.good.inputs names) elements;
       }
 
-  pub compiled : (r : Result Plan CompileErr) → OnOk r (IsAccepted s) → IfOk r (λ c. Good s c) → IfOk r (λ c. length c.gates ≤ 20447232) → IfOk r (IsCompiled text)
+  pub compiled : (r : Result Plan CompileErr) → OnOk r (IsAccepted s) → IfOk r (λ c. IsCircuitOf s c) → IfOk r (λ c. length c.gates ≤ 20447232) → IfOk r (IsCompiled text)
   compiled (Ok c) a g f = one_compiled c a g f
   compiled (Err e) a g f = tt

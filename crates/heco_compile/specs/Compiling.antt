@@ -11,7 +11,8 @@ use Rattle.heco_sources.specs.declared.source.SourceErr.TheVariants as e
 use Rattle.heco_circuit.specs.CircuitFormat.{circuit_text}
 use Rattle.heco_circuit.specs.Plans.{Plan}
 use Rattle.heco_good.specs.Accepted.{IsAccepted, IsTooDeep}
-use Rattle.heco_good.specs.Good.{Good, modulus}
+use Rattle.heco_good.specs.Compiled.{IsCircuitOf}
+use Rattle.heco_good.specs.Good.{modulus}
 use Rattle.heco_compile.specs.declared.error.CompileErr.{CompileErr}
 use Rattle.heco_compile.specs.declared.error.CompileErr.TheVariants.{SourceLong, At, TooDeep, Memory}
 
@@ -39,10 +40,10 @@ IsTextRefused text (At rule at) = reading.IsRefused text (e.At rule at) ⊎ IsOf
 IsTextRefused text (TooDeep out index bound) = IsOfSource text (TooDeep out index bound)
 IsTextRefused text Memory = Unit {0}
 
--- the text is a typed source, which is accepted, and the circuit is good for it and has a file of fewer than 2^28 bytes
+-- the text is a typed source, which is accepted, and the circuit is one of its circuits and has a file of fewer than 2^28 bytes
 pub record IsCompiled (text : List ℕ) (c : Plan) : Type 0 where
   pub source : Source
   pub is : IsSource text source
   pub accepted : IsAccepted source
-  pub good : Good source c
+  pub circuit : IsCircuitOf source c
   pub short : length (circuit_text c) < 2 ^ 28

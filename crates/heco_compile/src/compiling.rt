@@ -1,6 +1,6 @@
 ghost use Rattle.std.specs.Prelude.{◌≤◌, IfOk, IfErr, OnOk, length};
 ghost use Rattle.heco_good.specs.Accepted.{IsAccepted};
-ghost use Rattle.heco_good.specs.Good.{Good};
+ghost use Rattle.heco_good.specs.Compiled.{IsCircuitOf};
 ghost use Rattle.heco_compile.specs.Compiling.{IsRefused, IsTextRefused, IsCompiled};
 
 use crate::CompileErr;
@@ -25,7 +25,7 @@ fn emptied(alloc: Global, arena: Bump) -> Bump {
 /// output element that is too deep.
 pub fn compile_typed(alloc: Global, t: &Typed) -> Result<Circuit, CompileErr>
     ensures accepted { OnOk result (IsAccepted t.now) }
-    ensures good { IfOk result (λ c. Good t.now c) }
+    ensures circuit { IfOk result (λ c. IsCircuitOf t.now c) }
     ensures few { IfOk result (λ c. length c.gates ≤ 20447232) }
     ensures err { IfErr result (IsRefused t.now) }
 {

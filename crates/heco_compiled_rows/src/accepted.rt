@@ -1,9 +1,7 @@
 use crate::circuit::{greatest_bound, has_inputs, has_outputs, keys_of};
 use crate::sample::means_the_source;
-use crate::source::source_of;
+use crate::source::{compiled, source_of, typed};
 use heco_circuit::Circuit;
-use heco_compile::compile;
-use heco_sources::read_source;
 use heco_types::Typed;
 use std::alloc::Global;
 use std::test::Fail;
@@ -59,20 +57,6 @@ fn is_of(alloc: Global, t: &Typed, c: &Circuit) -> Result<bool, Fail> {
         return Ok(false);
     }
     means_the_source(alloc, t, c)
-}
-
-fn typed(alloc: Global, source: &str) -> Result<Typed, Fail> {
-    match read_source(alloc, source.as_bytes()) {
-        Ok(t) => Ok(t),
-        Err(_) => Err("no source".into()),
-    }
-}
-
-fn compiled(alloc: Global, source: &str) -> Result<Circuit, Fail> {
-    match compile(alloc, source.as_bytes()) {
-        Ok(c) => Ok(c),
-        Err(_) => Err("refused".into()),
-    }
 }
 
 fn circuit_holds(alloc: Global, t: &Typed, c: &Circuit, limits: &str) -> Result<bool, Fail> {

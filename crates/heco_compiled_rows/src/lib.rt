@@ -6,6 +6,8 @@ mod accepted;
 #[cfg(test)]
 mod circuit;
 #[cfg(test)]
+mod gathered;
+#[cfg(test)]
 mod refused;
 #[cfg(test)]
 mod sample;

@@ -9,8 +9,8 @@ use std::test::Fail;
 
 const SEED: u64 = 7;
 
-// A row for each input, of values in order.
-fn rows_of(alloc: Global, shapes: &[Shape], values: &[u32]) -> Result<Inputs, Fail> {
+/// A row for each input, of values in order.
+pub fn rows_of(alloc: Global, shapes: &[Shape], values: &[u32]) -> Result<Inputs, Fail> {
     let mut rows = List::new(alloc);
     let mut rest = values;
     for shape in shapes {

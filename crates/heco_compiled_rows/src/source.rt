@@ -1,3 +1,7 @@
+use heco_circuit::Circuit;
+use heco_compile::compile;
+use heco_sources::read_source;
+use heco_types::Typed;
 use std::alloc::Global;
 use std::test::Fail;
 
@@ -9,4 +13,18 @@ pub fn source_of(alloc: Global, field: &str) -> Result<String, Fail> {
     }
     text.push_str(field)?;
     Ok(text)
+}
+
+pub fn typed(alloc: Global, source: &str) -> Result<Typed, Fail> {
+    match read_source(alloc, source.as_bytes()) {
+        Ok(t) => Ok(t),
+        Err(_) => Err("no source".into()),
+    }
+}
+
+pub fn compiled(alloc: Global, source: &str) -> Result<Circuit, Fail> {
+    match compile(alloc, source.as_bytes()) {
+        Ok(c) => Ok(c),
+        Err(_) => Err("refused".into()),
+    }
 }

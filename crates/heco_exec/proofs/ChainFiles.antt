@@ -42,7 +42,7 @@ given_runs source c text kmat emat v k material good input keys words =
 pub executed_of_one_chain : ExecutedFilesAreOfOneChain
 executed_of_one_chain words command file file' printed e =
     let given = e.given in
-    let runs = given_runs e.source e.circuit given.inputs.text given.kmat.text given.emat.text e.values e.keys e.material e.good given.inputs.fits given.kmat.fits given.emat.fits in
+    let runs = given_runs e.source e.circuit given.inputs.text given.kmat.text given.emat.text e.values e.keys e.material e.of_source.good given.inputs.fits given.kmat.fits given.emat.fits in
     let many = fit_count (preset_of e.circuit.preset).t e.circuit.inputs e.values.rows runs.fit in
     (encrypted_of_the_chain (command ∷ name_of words 5 ∷ name_of words 6 ∷ name_of words 7 ∷ name_of words 8 ∷ []) file' e.circuit e.keys e.material e.values.rows e.values.rows
     (record { provided = runs.provided; circuit = e.cir; secret = e.sec; evaluation = e.eva }) many many).0 e.cts

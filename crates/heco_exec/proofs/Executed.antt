@@ -28,7 +28,7 @@ executed words agents left file file' p apart (s, (src, (u, (accepted, (v, (inpu
       material = rows;
       given = record { src = src; accepted = accepted; inputs = inputs; kmat = kmat; emat = emat };
       circuit = e.circuit;
-      good = e.good;
+      of_source = e.of_source;
       cir = now _ ∙ held.0;
       sec = now _ ∙ held.1.0;
       eva = now _ ∙ held.1.1.0;

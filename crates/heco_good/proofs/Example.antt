@@ -152,8 +152,10 @@ thrifty : IsThrifty circuit (homes_of source squares)
 thrifty = record {
   gates = leb-true 2 (cost (square ∷ [])) refl;
   late_gates = leb-true 2 (late_cost (square ∷ [])) refl;
-  bounds = all_at_most (greatest_bound (scheme_of 1) (square ∷ [])) (gate_bounds circuit) refl;
-  output_bounds = (leb-true (get_or (gate_bounds circuit) 1 0) (bound (scheme_of 1) square) refl, tt);
+  bounds = record {
+    gates = all_at_most (greatest_bound (scheme_of 1) (square ∷ [])) (gate_bounds circuit) refl;
+    outputs = (leb-true (get_or (gate_bounds circuit) 1 0) (bound (scheme_of 1) square) refl, tt);
+  };
   relinearisations = leb-true (count_by is_relin circuit.gates) (count_by is_product circuit.gates) refl;
   relinearisation_needed = refl;
   turns_needed = refl;

@@ -40,7 +40,7 @@ both words agents left file file' p apart (s, (src, (u, (accepted, (v, (inputs, 
         material = rows;
         given = record { src = src; accepted = accepted; first_inputs = inputs; second_inputs = beside; kmat = kmat; emat = emat };
         circuit = e.circuit;
-        good = e.good;
+        of_source = e.of_source;
         cir = now _ ∙ held.0;
         sec = now _ ∙ held.1.0;
         eva = now _ ∙ held.1.1.0;

@@ -3,7 +3,7 @@ use Rattle.std.specs.Prelude.{◌≡◌, ℕ, List, [], ◌∷◌, Some}
 use Rattle.heco_circuit.specs.CircuitFormat.{circuit_text}
 use Rattle.heco_circuit.specs.Plans.{Plan as Circuit}
 use Rattle.heco_good.specs.Accepted.{IsAccepted}
-use Rattle.heco_good.specs.Good.{Good}
+use Rattle.heco_good.specs.Compiled.{IsCircuitOf}
 use Rattle.heco_headline.specs.Headline.{IsPlainText}
 use Rattle.heco_material.specs.KeyLists.{KeyLists}
 use Rattle.heco_material.specs.declared.words.EncRow.{EncRow}
@@ -34,7 +34,7 @@ module _ (words : List (List ℕ)) where
     pub kmat : IsReadAs words file 4 (IsKeyMaterialOf source) keys
     pub emat : IsReadAs words file 5 (IsEncryptionMaterialOf source) material
 
-  -- of what was given: CIR spells a good circuit of the source; SEC and EVA are the keys that are made for it of the key material, CTS the inputs that are
+  -- of what was given: CIR spells a circuit of the source, which is good for it and gathered; SEC and EVA are the keys that are made for it of the key material, CTS the inputs that are
   -- encrypted by EVA and the encryption material, the values of IN in the first row and those of IN2 in the second, RES the result of the circuit's run on
   -- CTS with EVA; all other files stand; and of both texts that were printed the first is what decrypting RES with SEC prints of the first row, and exactly
   -- what the source's execution on the values of IN prints, and the second is the same of the second row and of IN2
@@ -46,7 +46,7 @@ module _ (words : List (List ℕ)) where
     pub material : List EncRow
     pub given : ArePairGiven file source first second keys material
     pub circuit : Circuit
-    pub good : Good source circuit
+    pub of_source : IsCircuitOf source circuit
     pub cir : file' (name_of words 6) ≡ Some (circuit_text circuit)
     pub sec : file' (name_of words 7) ≡ Some (secret_file (preset_of circuit.preset) keys)
     pub eva : file' (name_of words 8) ≡ Some (evaluation_file (preset_of circuit.preset) circuit keys)

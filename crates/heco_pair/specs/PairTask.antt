@@ -2,7 +2,7 @@
 use Rattle.std.specs.Prelude.{ℕ, true, List, [], ◌∷◌}
 use Rattle.heco_circuit.specs.Plans.{Plan as Circuit}
 use Rattle.heco_good.specs.Accepted.{IsAccepted}
-use Rattle.heco_good.specs.Good.{Good}
+use Rattle.heco_good.specs.Compiled.{IsCircuitOf}
 use Rattle.heco_headline.specs.Headline.{IsPlainText}
 use Rattle.heco_headline.specs.Pair.{first_text, second_text}
 use Rattle.heco_material.specs.KeyLists.{KeyLists}
@@ -26,11 +26,11 @@ pair_plan = record { reads = 1 ∷ 2 ∷ 3 ∷ 4 ∷ 5 ∷ []; writes = 6 ∷ 7 
 
 -- ---- what is given
 
--- one of the source's good circuits, which is chosen; its files and its text, whose parts are those of the source's execution on the values of either row;
+-- one of the source's circuits, which is chosen; its files and its text, whose parts are those of the source's execution on the values of either row;
 -- and the agents are left where its run leads them
 pub record Pairs (agents : Agents) (s : Source) (v w : Values) (k : KeyLists) (material : List EncRow) (p : Product) (left : Agents) : Type 0 where
   pub circuit : Circuit
-  pub good : Good s circuit
+  pub of_source : IsCircuitOf s circuit
   pub yields : YieldsPair circuit k material v.rows w.rows p
   pub first : IsPlainText s v.rows (first_text circuit k material v.rows w.rows)
   pub second : IsPlainText s w.rows (second_text circuit k material v.rows w.rows)

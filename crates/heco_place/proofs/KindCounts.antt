@@ -1,4 +1,5 @@
--- What the kinds of gates say of their number, their relinearisations and their turns, and that none is a difference.
+-- What the kinds of gates say of their number, their relinearisations and their turns, and that none is a difference or a
+-- product by a plain vector.
 use Rattle.std.proofs.Common.{◌≡◌, ℕ, suc, ◌+◌, Bool, true, false, ◌||◌, eqb, cond, List, [], ◌∷◌, ◌++◌, length, map, refl, sym, ap, ◌∙◌, arith}
 use Rattle.std.specs.List.{list_any, sum_by, count_by, flat_map}
 use Rattle.std.proofs.lemmas.List.{length-map}
@@ -12,8 +13,8 @@ use Rattle.heco_circuit.specs.declared.gate.Gate.{Gate}
 use Rattle.heco_circuit.specs.declared.gate.Gate.TheVariants.{Neg, Add, Sub, Mul, Relin, Scale, Shift, Turn, Weigh}
 use Rattle.heco_circuit.specs.Needs.{is_relin, turns_by as gate_turns_by}
 use Rattle.heco_circuit.specs.Versions.{is_sub, version_of}
-use Rattle.heco_place.specs.Kinds.{Kind, Difference, Product, Relinearisation, TurnBy, kind, kinds, relinearisation_where, is_relinearised}
-use Rattle.heco_thrift.specs.Thrift.{is_product as is_product_gate}
+use Rattle.heco_place.specs.Kinds.{Kind, Linear, Difference, Weighing, Product, Relinearisation, TurnBy, kind, kinds, relinearisation_where, is_relinearised}
+use Rattle.heco_thrift.specs.Thrift.{is_product as is_product_gate, is_weighing}
 use Rattle.heco_place.proofs.Bools.{or_false, or_assoc, equal}
 
 abbrev is_relin_kind : Kind → Bool
@@ -23,6 +24,10 @@ is_relin_kind k = false
 abbrev is_difference_kind : Kind → Bool
 is_difference_kind Difference = true
 is_difference_kind k = false
+
+abbrev is_weighing_kind : Kind → Bool
+is_weighing_kind Weighing = true
+is_weighing_kind k = false
 
 abbrev is_product_kind : Kind → Bool
 is_product_kind Product = true
@@ -91,6 +96,24 @@ sub_is (Scale c a) = refl
 sub_is (Shift c a) = refl
 sub_is (Turn r a) = refl
 sub_is (Weigh v a) = refl
+
+weighing_is : (g : Gate) → is_weighing g ≡ is_weighing_kind (kind g)
+weighing_is (Neg a) = refl
+weighing_is (Add a b) = refl
+weighing_is (Sub a b) = refl
+weighing_is (Mul a b) = refl
+weighing_is (Relin a) = refl
+weighing_is (Scale c a) = refl
+weighing_is (Shift c a) = refl
+weighing_is (Turn r a) = refl
+weighing_is (Weigh v a) = refl
+
+-- no gate of a term is of this kind
+record IsUnheard (p : Kind → Bool) : Type 0 where
+  linear : p Linear ≡ false
+  product : p Product ≡ false
+  relinearisation : p Relinearisation ≡ false
+  turn : (r : ℕ) → p (TurnBy r) ≡ false
 
 turn_is : (r : ℕ) (g : Gate) → gate_turns_by r g ≡ turns_kind r (kind g)
 turn_is r (Neg a) = refl
@@ -193,18 +216,21 @@ module _ (late : Bool) (ts vs : List VectorTerm) where
   has_turn r (Shifted c v) = no_turn r (relins (Shifted c v))
   has_turn r (Turned s v) = ap (λ b. eqb r s || b) (no_turn r (relins (Turned s v))) ∙ or_false (eqb r s)
 
-  no_difference : (b : Bool) → list_any is_difference_kind (relinearisation_where b) ≡ false
-  no_difference true = refl
-  no_difference false = refl
+  none_where : (p : Kind → Bool) (b : Bool) → IsUnheard p → list_any p (relinearisation_where b) ≡ false
+  none_where p true u = ap (λ x. x || false) u.relinearisation
+  none_where p false u = refl
 
-  has_difference : (v : VectorTerm) → list_any is_difference_kind (kinds late ts vs v) ≡ false
-  has_difference (Input a) = refl
-  has_difference (Negated v) = no_difference (relins (Negated v))
-  has_difference (Added v u) = no_difference (relins (Added v u))
-  has_difference (Multiplied v u) = no_difference (relins (Multiplied v u))
-  has_difference (Scaled c v) = no_difference (relins (Scaled c v))
-  has_difference (Shifted c v) = no_difference (relins (Shifted c v))
-  has_difference (Turned r v) = no_difference (relins (Turned r v))
+  none_of_two : (p : Kind → Bool) (k : Kind) (b : Bool) → IsUnheard p → p k ≡ false → list_any p (k ∷ relinearisation_where b) ≡ false
+  none_of_two p k b u e = ap (λ x. x || list_any p (relinearisation_where b)) e ∙ none_where p b u
+
+  has_none : (p : Kind → Bool) → IsUnheard p → (v : VectorTerm) → list_any p (kinds late ts vs v) ≡ false
+  has_none p u (Input a) = refl
+  has_none p u (Negated v) = none_of_two p Linear (relins (Negated v)) u u.linear
+  has_none p u (Added v w) = none_of_two p Linear (relins (Added v w)) u u.linear
+  has_none p u (Multiplied v w) = none_of_two p Product (relins (Multiplied v w)) u u.product
+  has_none p u (Scaled c v) = none_of_two p Linear (relins (Scaled c v)) u u.linear
+  has_none p u (Shifted c v) = none_of_two p Linear (relins (Shifted c v)) u u.linear
+  has_none p u (Turned r v) = none_of_two p (TurnBy r) (relins (Turned r v)) u (u.turn r)
 
   any_never : (xs : List VectorTerm) → list_any (λ v. false) xs ≡ false
   any_never [] = refl
@@ -232,8 +258,14 @@ module _ (late : Bool) (ts vs : List VectorTerm) where
     pub any_turn_is : (r : ℕ) → list_any (gate_turns_by r) gs ≡ list_any (turns_by r) xs
     any_turn_is r = any-map kind (turns_kind r) (gate_turns_by r) (turn_is r) gs ∙ ap (list_any (turns_kind r)) are ∙ any-flat (kinds late ts vs) (turns_kind r) (turns_by r) (has_turn r) xs
 
+    none_is : (p : Kind → Bool) (test : Gate → Bool) → ((g : Gate) → test g ≡ p (kind g)) → IsUnheard p → list_any test gs ≡ false
+    none_is p test same u = any-map kind p test same gs ∙ ap (list_any p) are ∙ any-flat (kinds late ts vs) p (λ v. false) (has_none p u) xs ∙ any_never xs
+
     no_subs : list_any is_sub gs ≡ false
-    no_subs = any-map kind is_difference_kind is_sub sub_is gs ∙ ap (list_any is_difference_kind) are ∙ any-flat (kinds late ts vs) is_difference_kind (λ v. false) has_difference xs ∙ any_never xs
+    no_subs = none_is is_difference_kind is_sub sub_is (record { linear = refl; product = refl; relinearisation = refl; turn = λ r. refl; })
+
+    pub none_weighs : list_any is_weighing gs ≡ false
+    none_weighs = none_is is_weighing_kind is_weighing weighing_is (record { linear = refl; product = refl; relinearisation = refl; turn = λ r. refl; })
 
     pub version_is : version_of [] gs ≡ 1
     version_is = rw no_subs refl

@@ -34,7 +34,7 @@ use Rattle.heco_circuit.specs.Plans.{Plan, shape_of}
 use Rattle.heco_place.specs.declared.carrier.Carrier.{Carrier}
 use Rattle.heco_thrift.specs.Placed.{IsPlaced}
 use Rattle.heco_written.specs.WrittenForm.{vectors_of}
-use Rattle.heco_thrift.specs.Thrift.{bounds_of, gate_bounds, IsThrifty}
+use Rattle.heco_thrift.specs.Thrift.{bounds_of, gate_bounds, IsLow, IsThrifty}
 use Rattle.heco_place.specs.Cells.{cell_over, cells_of}
 use Rattle.heco_place.specs.Fitting.{terms_of, AllHomesWithin, AreHomes}
 use Rattle.heco_place.specs.Kinds.{kinds, AreFewer}
@@ -47,7 +47,7 @@ use Rattle.heco_place.proofs.LowTerms.{below_greatest, quiet_greatest}
 use Rattle.heco_place.proofs.KindCounts.{forms_differ}
 use Rattle.heco_place.proofs.NodeVectors.{vectors_over}
 use Rattle.heco_place.proofs.RootCells.{cells_ok, cells_hold, cells_within}
-use Rattle.heco_place.proofs.ThriftLaws.{low_at, none_passes, early_sum, are, gates_within, relins_within, relins_are, turns_are}
+use Rattle.heco_place.proofs.ThriftLaws.{low_at, none_passes, early_sum, are, gates_within, relins_within, relins_are, turns_are, none_weighs}
 use Rattle.heco_place.proofs.ValidPlan.{Ports, formed, short}
 use Rattle.heco_place.specs.Ports.{ArePorts}
 use Rattle.heco_place.proofs.PortLaws.{ports_of}
@@ -118,12 +118,17 @@ module _ (id : ℕ) (inputs shapes : List Shape) (ns : List VNode) (ids : List N
   vectors_are : vectors_of (homes_over vs homes) ≡ vs
   vectors_are = vectors_over vs homes (homes_are.named_are ∙ ap (range_with_len 0) (sym count))
 
+  is_low : IsLow whole (homes_over vs homes)
+  is_low = record {
+    gates = rw vectors_are (bounds_low whole most (λ k h. rw (← length-fresh_bounds id inputs) (low_at id most (fresh_bounds id inputs) gates c.placing.low k h)));
+    outputs = rw cells_are (cells_within id most inputs ns ids gates ds c outputs ports.inputs_ok homes within);
+  }
+
   is_thrifty : IsThrifty whole (homes_over vs homes)
   is_thrifty = record {
     gates = rw (vectors_are, ← agrees.gates_are) ((gates_within id most inputs ns vs gates ds c).0);
     late_gates = rw (vectors_are, ← agrees.late_gates_are) ((gates_within id most inputs ns vs gates ds c).1);
-    bounds = rw vectors_are (bounds_low whole most (λ k h. rw (← length-fresh_bounds id inputs) (low_at id most (fresh_bounds id inputs) gates c.placing.low k h)));
-    output_bounds = rw cells_are (cells_within id most inputs ns ids gates ds c outputs ports.inputs_ok homes within);
+    bounds = rw (none_weighs id most inputs ns vs gates ds c) is_low;
     relinearisations = relins_within id most inputs ns vs gates ds c;
     relinearisation_needed = rw vectors_are (relins_are id most inputs ns vs gates ds c ∙ relin_product ns (numbers ids) earlier once inside c.late used ∙ agrees.products_are);
     turns_needed = rw vectors_are (filter_agree (λ r. list_any (turns_by r) gates) (needs_turn vs) (λ r. turns_are id most inputs ns vs gates ds c r ∙ agrees.turns_are r) (range_with_len 1 (slots_of id - 1)));

@@ -20,12 +20,12 @@ use Rattle.heco_circuit.specs.declared.gate.Gate.{Gate}
 use Rattle.heco_circuit.specs.Bounds.{bound_of, with_bound, first_passing}
 use Rattle.heco_circuit.specs.Needs.{is_relin, turns_by as gate_turns_by}
 use Rattle.heco_place.specs.declared.carrier.Carrier.{Carrier}
-use Rattle.heco_thrift.specs.Thrift.{is_product as is_product_gate}
+use Rattle.heco_thrift.specs.Thrift.{is_product as is_product_gate, is_weighing}
 use Rattle.heco_place.specs.Kinds.{is_relinearised, kind, kinds}
 use Rattle.heco_place.specs.Placing.{is_low, IsChosen}
 use Rattle.heco_place.proofs.Bools.{left, right}
 use Rattle.heco_place.proofs.Growing.{along-keeps}
-use Rattle.heco_place.proofs.KindCounts.{gate_count, relin_count_is, mul_count_is, any_relin_is, any_turn_is, forms_differ}
+use Rattle.heco_place.proofs.KindCounts.{gate_count, relin_count_is, mul_count_is, any_relin_is, any_turn_is, forms_differ, none_weighs as no_weighing}
 use Rattle.heco_place.proofs.NodeTerms.{length-vector_terms}
 
 -- bounds that are all low
@@ -110,3 +110,6 @@ module _ (id most : ℕ) (inputs : List Shape) (ns : List VNode) (vs : List Vect
 
   pub turns_are : (r : ℕ) → list_any (gate_turns_by r) gs ≡ list_any (turns_by r) ts
   turns_are r = any_turn_is c.late ts vs gs ts are r
+
+  pub none_weighs : list_any is_weighing gs ≡ false
+  none_weighs = no_weighing c.late ts vs gs ts are

@@ -3,7 +3,7 @@
 
 ghost use Rattle.std.specs.Prelude.{◌≡◌, ◌<◌, ◌^◌, IfOk, OnOk, length};
 ghost use Rattle.heco_end_to_end.specs.EndToEnd.{IsRunnable};
-ghost use Rattle.heco_good.specs.Good.{Good};
+ghost use Rattle.heco_good.specs.Compiled.{IsCircuitOf};
 ghost use Rattle.heco_jobs.specs.Agents.{agents};
 ghost use Rattle.heco_jobs.specs.Products.{Prints};
 ghost use Rattle.heco_products.specs.PresetRows.{preset_of};
@@ -60,7 +60,7 @@ fn of_values(
     picker: &mut Box<dyn Picker>,
 ) -> Result<Product, Memory>
     requires is { IsSource sample_text typed.now }
-    requires good { Good typed.now circuit.now }
+    requires circuit { IsCircuitOf typed.now circuit.now }
     requires rows { values.now.rows ≡ drawn_rows seed }
     ensures samples { IfOk result (λ p. Samples (agents (rule picker.old) (state picker.old)) seed p (agents (rule picker.new) (state picker.new))) }
     ensures rule { rule picker.new ≡ rule picker.old }
@@ -79,7 +79,7 @@ fn of_circuit(
     picker: &mut Box<dyn Picker>,
 ) -> Result<Product, Memory>
     requires is { IsSource sample_text typed.now }
-    requires good { Good typed.now circuit.now }
+    requires circuit { IsCircuitOf typed.now circuit.now }
     ensures samples { IfOk result (λ p. Samples (agents (rule picker.old) (state picker.old)) seed p (agents (rule picker.new) (state picker.new))) }
     ensures rule { rule picker.new ≡ rule picker.old }
 {

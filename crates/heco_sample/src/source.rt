@@ -2,7 +2,8 @@
 
 ghost use Rattle.std.specs.Prelude.{◌≡◌, IfOk, Ok, length};
 ghost use Rattle.heco_eval.specs.Typed.{outputs_of};
-ghost use Rattle.heco_good.specs.Good.{Good, modulus};
+ghost use Rattle.heco_good.specs.Compiled.{IsCircuitOf};
+ghost use Rattle.heco_good.specs.Good.{modulus};
 ghost use Rattle.heco_headline.specs.Headline.{IsPlainText};
 ghost use Rattle.heco_sample_source.specs.SampleText.{sample_text};
 ghost use Rattle.heco_sources.specs.Inputs.{input_shapes, output_shapes};
@@ -59,10 +60,10 @@ pub fn source(alloc: Global) -> Result<Typed, Memory>
     }
 }
 
-/// A circuit that is good for it.
+/// The circuit that it is compiled to.
 pub fn circuit(alloc: Global, typed: &Typed) -> Result<Circuit, Memory>
     requires { IsSource sample_text typed.now }
-    ensures { IfOk result (λ c. Good typed.now c) }
+    ensures { IfOk result (λ c. IsCircuitOf typed.now c) }
 {
     match compile_typed(alloc, typed) {
         Ok(circuit) => Ok(circuit),

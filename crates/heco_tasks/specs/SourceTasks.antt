@@ -3,7 +3,7 @@ use Rattle.std.specs.Prelude.{ℕ, true, false, List, [], ◌∷◌}
 use Rattle.heco_circuit.specs.CircuitFormat.{circuit_text}
 use Rattle.heco_circuit.specs.Plans.{Plan as Circuit}
 use Rattle.heco_good.specs.Accepted.{IsAccepted}
-use Rattle.heco_good.specs.Good.{Good}
+use Rattle.heco_good.specs.Compiled.{IsCircuitOf}
 use Rattle.heco_nums.specs.declared.shape.Values.{Values}
 use Rattle.heco_sources.specs.Inputs.{output_shapes, IsInput}
 use Rattle.heco_sources.specs.Sources.{IsSource}
@@ -38,13 +38,13 @@ plain_job agents = Read 1 Source IsSource IsSourceRefusal (values_job agents)
 abbrev pub compile_plan : Plan
 compile_plan = record { reads = 1 ∷ []; writes = 2 ∷ []; prints = false }
 
--- the file of one of the source's good circuits is written
+-- the file of one of the source's circuits is written
 pub record Compiles (s : Source) (p : Product) : Type 0 where
   pub circuit : Circuit
-  pub good : Good s circuit
+  pub of_source : IsCircuitOf s circuit
   pub stores : Stores (planned 2 (circuit_text circuit) ∷ []) p
 
--- the source is accepted, which is judged, and one of its good circuits is written, which is chosen
+-- the source is accepted, which is judged, and one of its circuits is written, which is chosen
 unfoldable pub accepted_job : Agents → Source → Job
 accepted_job agents s = Judge (Unit {0}) (λ _. IsAccepted s) (IsCompileRefusal s) (λ _. Give (asking_none agents (Compiles s)))
 

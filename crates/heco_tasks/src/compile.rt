@@ -1,7 +1,7 @@
 ghost use Rattle.std.specs.Prelude.{◌≡◌, ◌∷◌, [], IfOk};
 ghost use Rattle.heco_circuit.specs.CircuitFormat.{circuit_text};
 ghost use Rattle.heco_good.specs.Accepted.{IsAccepted};
-ghost use Rattle.heco_good.specs.Good.{Good};
+ghost use Rattle.heco_good.specs.Compiled.{IsCircuitOf};
 ghost use Rattle.heco_jobs.specs.Agents.{Agents};
 ghost use Rattle.heco_jobs.specs.Products.{Stores, planned};
 ghost use Rattle.heco_jobs.specs.Stages.{Settles, came, IsDecided, IsGathered};
@@ -31,10 +31,10 @@ fn answer(error: CompileErr) -> Outcome
     }
 }
 
-/// A good circuit of the source, or why it has none.
+/// The circuit that the source is compiled to, or why it has none.
 pub fn compiled(alloc: Global, typed: &Typed) -> Result<Circuit, Outcome>
     ensures settled { Settles (λ _. IsAccepted typed.now) (IsCompileRefusal typed.now) (came result) }
-    ensures good { IfOk result (λ c. Good typed.now c) }
+    ensures circuit { IfOk result (λ c. IsCircuitOf typed.now c) }
 {
     match compile_typed(alloc, typed) {
         Ok(circuit) => Ok(circuit),

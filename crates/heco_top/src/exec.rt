@@ -1,5 +1,5 @@
 ghost use Rattle.std.specs.Prelude.{◌≡◌, IfErr};
-ghost use Rattle.heco_good.specs.Good.{Good};
+ghost use Rattle.heco_good.specs.Compiled.{IsCircuitOf};
 ghost use Rattle.heco_material.specs.KeyLists.{lists_of};
 ghost use Rattle.heco_products.specs.PresetRows.{preset_of};
 ghost use Rattle.heco_syntax.specs.declared.tree.Source.{Source};
@@ -35,7 +35,7 @@ fn gather_encryptions<S: Store>(
 ) -> Result<Product, Outcome>
     requires fit { HaveFit (preset_of circuit.now.preset).t circuit.now.inputs values.now.rows }
     requires keys { AreKeysFor circuit.now k.now }
-    ensures gathered { (s : Source) → Good s circuit.now → IsGathered S.Store (texts words.now) exec_plan
+    ensures gathered { (s : Source) → IsCircuitOf s circuit.now → IsGathered S.Store (texts words.now) exec_plan
         (encryptions_job (agents (rule picker.old) (state picker.old)) s values.now (lists_of k.now)) (agents (rule picker.new) (state picker.new)) store.old store.new result }
     ensures rule { rule picker.new ≡ rule picker.old }
     ensures left { IfErr result (λ outcome. IsLeft outcome picker.old picker.new) }
@@ -57,7 +57,7 @@ fn gather_keys<S: Store>(
     picker: &mut Box<dyn Picker>,
 ) -> Result<Product, Outcome>
     requires { HaveFit (preset_of circuit.now.preset).t circuit.now.inputs values.now.rows }
-    ensures gathered { (s : Source) → Good s circuit.now → IsGathered S.Store (texts words.now) exec_plan
+    ensures gathered { (s : Source) → IsCircuitOf s circuit.now → IsGathered S.Store (texts words.now) exec_plan
         (keys_job (agents (rule picker.old) (state picker.old)) s values.now) (agents (rule picker.new) (state picker.new)) store.old store.new result }
     ensures rule { rule picker.new ≡ rule picker.old }
     ensures left { IfErr result (λ outcome. IsLeft outcome picker.old picker.new) }
@@ -74,7 +74,7 @@ fn gather_inputs<S: Store>(
     store: &mut S,
     picker: &mut Box<dyn Picker>,
 ) -> Result<Product, Outcome>
-    ensures gathered { (s : Source) → Good s circuit.now → IsGathered S.Store (texts words.now) exec_plan
+    ensures gathered { (s : Source) → IsCircuitOf s circuit.now → IsGathered S.Store (texts words.now) exec_plan
         (inputs_job (agents (rule picker.old) (state picker.old)) s) (agents (rule picker.new) (state picker.new)) store.old store.new result }
     ensures rule { rule picker.new ≡ rule picker.old }
     ensures left { IfErr result (λ outcome. IsLeft outcome picker.old picker.new) }

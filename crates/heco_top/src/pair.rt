@@ -1,5 +1,5 @@
 ghost use Rattle.std.specs.Prelude.{◌≡◌, IfErr};
-ghost use Rattle.heco_good.specs.Good.{Good};
+ghost use Rattle.heco_good.specs.Compiled.{IsCircuitOf};
 ghost use Rattle.heco_material.specs.KeyLists.{lists_of};
 ghost use Rattle.heco_products.specs.PresetRows.{preset_of};
 ghost use Rattle.heco_syntax.specs.declared.tree.Source.{Source};
@@ -38,7 +38,7 @@ fn gather_encryptions<S: Store>(
     requires first { HaveFit (preset_of circuit.now.preset).t circuit.now.inputs first.now.rows }
     requires second { HaveFit (preset_of circuit.now.preset).t circuit.now.inputs second.now.rows }
     requires keys { AreKeysFor circuit.now k.now }
-    ensures gathered { (s : Source) → Good s circuit.now → IsGathered S.Store (texts words.now) pair_plan
+    ensures gathered { (s : Source) → IsCircuitOf s circuit.now → IsGathered S.Store (texts words.now) pair_plan
         (encryptions_job (agents (rule picker.old) (state picker.old)) s first.now second.now (lists_of k.now)) (agents (rule picker.new) (state picker.new)) store.old store.new result }
     ensures rule { rule picker.new ≡ rule picker.old }
     ensures left { IfErr result (λ outcome. IsLeft outcome picker.old picker.new) }
@@ -62,7 +62,7 @@ fn gather_keys<S: Store>(
 ) -> Result<Product, Outcome>
     requires first { HaveFit (preset_of circuit.now.preset).t circuit.now.inputs first.now.rows }
     requires second { HaveFit (preset_of circuit.now.preset).t circuit.now.inputs second.now.rows }
-    ensures gathered { (s : Source) → Good s circuit.now → IsGathered S.Store (texts words.now) pair_plan
+    ensures gathered { (s : Source) → IsCircuitOf s circuit.now → IsGathered S.Store (texts words.now) pair_plan
         (keys_job (agents (rule picker.old) (state picker.old)) s first.now second.now) (agents (rule picker.new) (state picker.new)) store.old store.new result }
     ensures rule { rule picker.new ≡ rule picker.old }
     ensures left { IfErr result (λ outcome. IsLeft outcome picker.old picker.new) }
@@ -81,7 +81,7 @@ fn gather_second<S: Store>(
     picker: &mut Box<dyn Picker>,
 ) -> Result<Product, Outcome>
     requires { HaveFit (preset_of circuit.now.preset).t circuit.now.inputs first.now.rows }
-    ensures gathered { (s : Source) → Good s circuit.now → IsGathered S.Store (texts words.now) pair_plan
+    ensures gathered { (s : Source) → IsCircuitOf s circuit.now → IsGathered S.Store (texts words.now) pair_plan
         (second_job (agents (rule picker.old) (state picker.old)) s first.now) (agents (rule picker.new) (state picker.new)) store.old store.new result }
     ensures rule { rule picker.new ≡ rule picker.old }
     ensures left { IfErr result (λ outcome. IsLeft outcome picker.old picker.new) }
@@ -99,7 +99,7 @@ fn gather_first<S: Store>(
     store: &mut S,
     picker: &mut Box<dyn Picker>,
 ) -> Result<Product, Outcome>
-    ensures gathered { (s : Source) → Good s circuit.now → IsGathered S.Store (texts words.now) pair_plan
+    ensures gathered { (s : Source) → IsCircuitOf s circuit.now → IsGathered S.Store (texts words.now) pair_plan
         (first_job (agents (rule picker.old) (state picker.old)) s) (agents (rule picker.new) (state picker.new)) store.old store.new result }
     ensures rule { rule picker.new ≡ rule picker.old }
     ensures left { IfErr result (λ outcome. IsLeft outcome picker.old picker.new) }

@@ -36,4 +36,4 @@ returns c = λ agents.
     decided_on compile_plan {Thing = Unit {0}} (λ _. IsAccepted s) (IsCompileRefusal s) (λ _. Give (asking_none agents (Compiles s))) agents
     tt (Ok product) c.in_ok-circuit.ensures.settled
     (given compile_plan (asking_none agents (Compiles s)) agents (Ok product) (λ q h. fits_store compile_plan (planned 2 (circuit_text h.0.circuit) ∷ []) q refl refl h.0.stores)
-    (record { circuit = circuit; good = c.in_ok-circuit.ensures.good; stores = c.in_ok-product.ensures }, refl))
+    (record { circuit = circuit; of_source = c.in_ok-circuit.ensures.circuit; stores = c.in_ok-product.ensures }, refl))

@@ -1,0 +1,5 @@
+pub mod Wires
+pub mod Renaming
+pub mod Needed
+pub mod Dropping
+pub mod Full
