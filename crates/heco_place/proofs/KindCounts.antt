@@ -262,10 +262,10 @@ module _ (late : Bool) (ts vs : List VectorTerm) where
     none_is p test same u = any-map kind p test same gs ∙ ap (list_any p) are ∙ any-flat (kinds late ts vs) p (λ v. false) (has_none p u) xs ∙ any_never xs
 
     no_subs : list_any is_sub gs ≡ false
-    no_subs = none_is is_difference_kind is_sub sub_is (record { linear = refl; product = refl; relinearisation = refl; turn = λ r. refl; })
+    no_subs = none_is is_difference_kind is_sub sub_is (record { linear = refl; product = refl; relinearisation = refl; turn = λ r. refl })
 
     pub none_weighs : list_any is_weighing gs ≡ false
-    none_weighs = none_is is_weighing_kind is_weighing weighing_is (record { linear = refl; product = refl; relinearisation = refl; turn = λ r. refl; })
+    none_weighs = none_is is_weighing_kind is_weighing weighing_is (record { linear = refl; product = refl; relinearisation = refl; turn = λ r. refl })
 
     pub version_is : version_of [] gs ≡ 1
     version_is = rw no_subs refl

@@ -20,6 +20,7 @@ none_differs x y (z ∷ xs) zero h e s =
     first : (b c : Bool) → not (b || c) ≡ true → b ≡ false
     first true c h = absurd cc
     first false c h = refl
+
     same : (a b : Bool) → (a && not b) ≡ false → a ≡ true → b ≡ true
     same true true h e = refl
     same true false h e = sym h

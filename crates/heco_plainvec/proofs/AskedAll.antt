@@ -87,7 +87,7 @@ pub asked_are : (c : Plan) (a : ℕ) → Valid c → All (IsAsk c.preset) (asked
 asked_are c a v =
     each_all (IsAsk c.preset) (asked c a)
     (each_flat (IsAsk c.preset) (asked_by (multiples c a)) (all_cells c)
-      (λ i x e. asks_by c.preset (modulus_of c.preset) (wire_parts c) (multiples c a) x (multiples_are c a v) (cells_are c v i x e)))
+    (λ i x e. asks_by c.preset (modulus_of c.preset) (wire_parts c) (multiples c a) x (multiples_are c a v) (cells_are c v i x e)))
 
 -- ---- the vector
 slot_low : (id : ℕ) (xs : List Asked) (j : ℕ) → All (IsAsk id) xs → at_slot xs j ≤ modulus_of id - 1

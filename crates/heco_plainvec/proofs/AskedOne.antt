@@ -81,15 +81,16 @@ asked_from only a wire slot u [] = by_test (ltb wire u)
 asked_from only a wire slot u (g ∷ gs) = elim (cases_lt wire u) [
   | inl l ↦ none_before only a wire slot u (g ∷ gs) l ∙ sym (ap (λ o. asks_where a slot (scaled_by_maker (only wire) o)) (early_maker u wire (g ∷ gs) l))
   | inr ge ↦ (elim (cases_eq u wire) [
-      | inl q ↦ subst (λ w. filter_map (asked_at w slot) (multiples_from only a u (g ∷ gs)) ≡ asks_where a slot (scaled_by_maker (only w) (maker u (g ∷ gs) w))) q own
-      | inr ne ↦ other_head wire slot u (multiple_where (only u) a u g) (multiples_from only a (u + 1) gs) (λ m e. own_number only a u g m e) (ne_eqb u wire ne)
-          ∙ asked_from only a wire slot (u + 1) gs
-          ∙ sym (ap (λ o. asks_where a slot (scaled_by_maker (only wire) o)) (later_maker u wire g gs (above u wire ge ne)))
-    ])
+    | inl q ↦ subst (λ w. filter_map (asked_at w slot) (multiples_from only a u (g ∷ gs)) ≡ asks_where a slot (scaled_by_maker (only w) (maker u (g ∷ gs) w))) q own
+    | inr ne ↦ other_head wire slot u (multiple_where (only u) a u g) (multiples_from only a (u + 1) gs) (λ m e. own_number only a u g m e) (ne_eqb u wire ne)
+        ∙ asked_from only a wire slot (u + 1) gs
+        ∙ sym (ap (λ o. asks_where a slot (scaled_by_maker (only wire) o)) (later_maker u wire g gs (above u wire ge ne)))
+  ])
 ]
   where
     above : (x y : ℕ) → x ≤ y → (x ≡ y → ⊥) → x < y
     above x y l n = elim (cases_lt x y) [ inl h ↦ h | inr g ↦ absurd (n (omega (arith, l, g))) ]
+
     own : filter_map (asked_at u slot) (multiples_from only a u (g ∷ gs)) ≡ asks_where a slot (scaled_by_maker (only u) (maker u (g ∷ gs) u))
     own =
         own_head (only u) a slot u g (multiples_from only a (u + 1) gs)

@@ -46,6 +46,7 @@ none_of test (y ∷ xs) x h = by_test (eqb y x) refl h (none_of test xs x)
     here : (b : Bool) → eqb y x ≡ false → has (filter test xs) x ≡ false → has (cond b (y ∷ filter test xs) (filter test xs)) x ≡ false
     here true e g = ap (λ b. b || has (filter test xs) x) e ∙ g
     here false e g = g
+
     by_test : (b : Bool) → eqb y x ≡ b → (b || has xs x) ≡ false → (has xs x ≡ false → has (filter test xs) x ≡ false) → has (cond (test y) (y ∷ filter test xs) (filter test xs)) x ≡ false
     by_test true e h f = absurd cc
     by_test false e h f = here (test y) e (f h)
@@ -96,6 +97,7 @@ has_at (suc k) (x ∷ xs) ys a h = by_test (eqb x a) refl h (has_at k xs ys a)
       | inl l ↦ lt-ltb m n l ∙ sym (lt-ltb (suc m) (suc n) (omega (arith, l)))
       | inr g ↦ le-ltb m n g ∙ sym (le-ltb (suc m) (suc n) (omega (arith, g)))
     ]
+
     by_test : (b : Bool) → eqb x a ≡ b → (b || has xs a) ≡ false → (has xs a ≡ false → has (take k (xs ++ a ∷ ys)) a ≡ ltb (length xs) k) → (eqb x a || has (take k (xs ++ a ∷ ys)) a) ≡ ltb (suc (length xs)) (suc k)
     by_test true e h f = absurd cc
     by_test false e h f = ap (λ b. b || has (take k (xs ++ a ∷ ys)) a) e ∙ f h ∙ same (length xs) k
@@ -116,12 +118,13 @@ unfolding chosen
 chosen_is c a l s =
     let r : ℕ = length c.inputs + length c.gates - (a + 1) in
     let z : 0 + a ≡ a = omega arith in
-    let e : length c.inputs + length c.gates ≡ a + suc r = omega (arith, l) in
-    (filter (serves c) (range_with_len (0 + a + 1) r),
-    ap (take (room c)) (ap (λ n. filter (serves c) (range_with_len 0 n)) e ∙ ap (filter (serves c)) (split 0 a (suc r))
-      ∙ filter-append (serves c) (range_with_len 0 a) (range_with_len (0 + a) (suc r))
-      ∙ ap (λ b. served_below c a ++ cond b ((0 + a) ∷ filter (serves c) (range_with_len (0 + a + 1) r)) (filter (serves c) (range_with_len (0 + a + 1) r))) (ap (serves c) z ∙ s)
-      ∙ ap (λ k. served_below c a ++ k ∷ filter (serves c) (range_with_len (0 + a + 1) r)) z))
+    let e : length c.inputs + length c.gates ≡ a + suc r = omega (arith, l) in (
+      filter (serves c) (range_with_len (0 + a + 1) r),
+      ap (take (room c)) (ap (λ n. filter (serves c) (range_with_len 0 n)) e ∙ ap (filter (serves c)) (split 0 a (suc r))
+          ∙ filter-append (serves c) (range_with_len 0 a) (range_with_len (0 + a) (suc r))
+          ∙ ap (λ b. served_below c a ++ cond b ((0 + a) ∷ filter (serves c) (range_with_len (0 + a + 1) r)) (filter (serves c) (range_with_len (0 + a + 1) r))) (ap (serves c) z ∙ s)
+          ∙ ap (λ k. served_below c a ++ k ∷ filter (serves c) (range_with_len (0 + a + 1) r)) z),
+    )
 
 not_served : (c : Plan) (a : ℕ) → serves c a ≡ false → has (chosen c) a ≡ false
 not_served c a s = by_test (has (chosen c) a) refl
@@ -159,6 +162,7 @@ product_found c a l below =
   where
     n : ℕ
     n = length c.vectors + length (chosen_below c a)
+
     by_room : serves c a ≡ true → (b : Bool) → ltb (length (served_below c a)) (room c) ≡ b
         → option_map (numbered_product n (first_multiple c a)) (cond (b && true) (Some (vector c a)) None) ≡ product_at c a
     by_room s true t =
@@ -173,6 +177,7 @@ product_found c a l below =
         let r = chosen_is c a below s in
         let h : has (chosen c) a ≡ false = ap (λ xs. has xs a) r.1 ∙ has_at (room c) (served_below c a) r.0 a (fresh_in c a) ∙ t in
         sym (ap (λ b. cond b (Some (record { vector = vector_number c a; first = first_multiple c a })) None) h)
+
     by_serves : (s : Bool) → serves c a ≡ s
         → option_map (numbered_product n (first_multiple c a)) (cond (ltb (length (served_below c a)) (room c) && s) (Some (vector c a)) None) ≡ product_at c a
     by_serves true s = by_room s (ltb (length (served_below c a)) (room c)) refl
@@ -195,9 +200,11 @@ vectors_more c a l =
     assoc : (xs ys zs : List (List ℕ)) → (xs ++ ys) ++ zs ≡ xs ++ (ys ++ zs)
     assoc [] ys zs = refl
     assoc (x ∷ xs) ys zs = ap (λ ws. x ∷ ws) (assoc xs ys zs)
+
     one : (b : Bool) → cons_option (cond b (Some (vector c a)) None) [] ≡ map (vector c) (cond b (a ∷ []) [])
     one true = refl
     one false = refl
+
     joined : (b : Bool) → (c.vectors ++ map (vector c) (chosen_below c a)) ++ cons_option (cond b (Some (vector c a)) None) [] ≡ c.vectors ++ map (vector c) (chosen_below c a ++ cond b (a ∷ []) [])
     joined b =
         assoc c.vectors (map (vector c) (chosen_below c a)) (cons_option (cond b (Some (vector c a)) None) [])

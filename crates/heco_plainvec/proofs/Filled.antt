@@ -43,6 +43,7 @@ agree_more (x ∷ xs) y =
         by_test : (b : Bool) → list_any test (zs ++ y ∷ []) ≡ (list_any test zs || test y) → (b || list_any test (zs ++ y ∷ [])) ≡ ((b || list_any test zs) || test y)
         by_test true e = refl
         by_test false e = e
+
     tests : (a d g b : Bool) → (not (a || d) && (g && not b)) ≡ ((not a && g) && not (d || b))
     tests true d g b = refl
     tests false true true b = refl
@@ -69,19 +70,24 @@ agrees_is (x ∷ xs) y h g =
   where
     u : (not (list_any (differs x) xs) ≡ true) × (agree xs ≡ true)
     u = both_true (not (list_any (differs x) xs)) (agree xs) g
+
     none : (b : Bool) → not b ≡ true → b ≡ false
     none true e = absurd cc
     none false e = refl
+
     same_any : (f k : Asked → Bool) (zs : List Asked) → ((z : Asked) → f z ≡ k z) → list_any f zs ≡ list_any k zs
     same_any f k [] e = refl
     same_any f k (z ∷ zs) e = ap (λ b. b || list_any f zs) (e z) ∙ ap (λ b. k z || b) (same_any f k zs e)
+
     turned : x.slot ≡ y.slot → x.by ≡ y.by → (z : Asked) → differs z y ≡ differs x z
     turned s q z =
         ap (λ b. b && not (eqb z.by y.by)) (swapped z.slot y.slot ∙ ap (λ k. eqb k z.slot) (sym s))
         ∙ ap (λ b. eqb x.slot z.slot && not b) (swapped z.by y.by ∙ ap (λ k. eqb k z.by) (sym q))
+
     by_by : (b : Bool) → eqb x.by y.by ≡ b → x.slot ≡ y.slot → (false || b) ≡ not (not b || list_any (λ z. differs z y) xs)
     by_by true t s = sym (ap not (same_any (λ z. differs z y) (differs x) xs (turned s (eqb-true x.by y.by t)) ∙ none (list_any (differs x) xs) u.0))
     by_by false t s = refl
+
     by_slot : (b : Bool) → eqb x.slot y.slot ≡ b → agrees xs y ≡ not (list_any (λ z. differs z y) xs)
         → (eqb (cond b x.by (at_slot xs y.slot)) 0 || eqb (cond b x.by (at_slot xs y.slot)) y.by) ≡ not ((b && not (eqb x.by y.by)) || list_any (λ z. differs z y) xs)
     by_slot true t e = ap (λ k. k || eqb x.by y.by) (some x.by (h 0 x refl)) ∙ by_by (eqb x.by y.by) refl (eqb-true x.slot y.slot t)
@@ -103,6 +109,7 @@ agree_front (suc k) (x ∷ xs) h =
         by_test : (b : Bool) → (b || list_any (differs x) (take k zs)) ≡ true → (list_any (differs x) (take k zs) ≡ true → list_any (differs x) zs ≡ true) → (b || list_any (differs x) zs) ≡ true
         by_test true e f = refl
         by_test false e f = f e
+
     fewer : (a b : Bool) → (a ≡ true → b ≡ true) → not b ≡ true → agree (take k xs) ≡ true → (not a && agree (take k xs)) ≡ true
     fewer true true f n g = absurd cc
     fewer true false f n g = absurd (let z : false ≡ true = f refl in cc)
@@ -128,7 +135,7 @@ vector_more id xs y h l a =
     let m = length-vector id (xs ++ y ∷ []) in
     let s = length-set (vector_of id xs) y.slot y.by in
     ext_get_or 0 (vector_of id (xs ++ y ∷ [])) (slice_set (vector_of id xs) y.slot y.by) (omega (arith, n, m, s)) (λ j k.
-      slot_of_vector id (xs ++ y ∷ []) j (omega (arith, m, k)) ∙ slot_more xs y j h ∙ by_slot j (omega (arith, m, k)))
+    slot_of_vector id (xs ++ y ∷ []) j (omega (arith, m, k)) ∙ slot_more xs y j h ∙ by_slot j (omega (arith, m, k)))
   where
     own : (n : ℕ) → (eqb n 0 || eqb n y.by) ≡ true → cond (eqb n 0) y.by n ≡ y.by
     own n e = by_test (eqb n 0) e
@@ -136,12 +143,14 @@ vector_more id xs y h l a =
         by_test : (b : Bool) → (b || eqb n y.by) ≡ true → cond b y.by n ≡ y.by
         by_test true e = refl
         by_test false e = eqb-true n y.by e
+
     none : (n : ℕ) → cond (eqb n 0) 0 n ≡ n
     none n = by_test (eqb n 0) refl
       where
         by_test : (b : Bool) → eqb n 0 ≡ b → cond b 0 n ≡ n
         by_test true t = sym (eqb-true n 0 t)
         by_test false t = refl
+
     by_slot : (j : ℕ) → j < slots_of id → cond (eqb (at_slot xs j) 0) (cond (eqb y.slot j) y.by 0) (at_slot xs j) ≡ get_or (slice_set (vector_of id xs) y.slot y.by) j 0
     by_slot j k = elim (cases_eq y.slot j) [
       | inl q ↦ (let e : eqb y.slot j ≡ true = eq-eqb y.slot j q in
@@ -207,11 +216,12 @@ pub one_agrees : (id : ℕ) (asks : List Asked) (i : ℕ) (v w : List ℕ) (d : 
     → (agree (take (i + 1) asks) ≡ true) × (w ≡ vector_of id (take (i + 1) asks))
 one_agrees id asks i v w d f t e =
     let y : Asked = get_or asks i d in
-    let a : IsAsk id y = ask_is id asks i d f.asks_are f.below in
-    (next_agree id asks i v d f ∙ t,
-    e ∙ ap (λ u. slice_set u y.slot y.by) f.value
-    ∙ sym (ap (vector_of id) (take_more asks i d f.below)
-      ∙ vector_more id (take i asks) y (constants_before id i asks f.asks_are) a.0 (sym (test_is id asks i v d f) ∙ t)))
+    let a : IsAsk id y = ask_is id asks i d f.asks_are f.below in (
+      next_agree id asks i v d f ∙ t,
+      e ∙ ap (λ u. slice_set u y.slot y.by) f.value
+          ∙ sym (ap (vector_of id) (take_more asks i d f.below)
+          ∙ vector_more id (take i asks) y (constants_before id i asks f.asks_are) a.0 (sym (test_is id asks i v d f) ∙ t)),
+    )
 
 pub one_disagrees : (id : ℕ) (asks : List Asked) (i : ℕ) (v : List ℕ) (d : Asked) → IsFilled id asks i v → test_of v (get_or asks i d) ≡ false → agree asks ≡ false
 one_disagrees id asks i v d f t = disagree (i + 1) asks (next_agree id asks i v d f ∙ t)

@@ -41,6 +41,7 @@ image_is c u k g h n e q = by_stays (stays c u) refl q
         let r : Weigh (vector_number c of) (name c of) ≡ h = cc in
         let w = scale_at c u k of g n e s in
         inr (record { of = of; by = w.0; source_is = s; leads = l; gate = w.1; is = sym r })
+
     by_stays : (b : Bool) → stays c u ≡ b → cond b (Some (gate_where c g (source c u))) None ≡ Some h → IsKept c u g h ⊎ IsWeighed c u g h
     by_stays true t q = by_source (source c u) refl (eqb-true (leader c u) u t) q
     by_stays false t q = absurd cc
@@ -64,6 +65,7 @@ same_any {X = X} F test u (x ∷ xs) f g =
   where
     z : u + 0 ≡ u
     z = omega arith
+
     by_answer : (o : Option X) → F (u, x) ≡ o → list_any test (filter_map F (enumerate_from (u + 1) xs)) ≡ list_any test xs → list_any test (cons_option o (filter_map F (enumerate_from (u + 1) xs))) ≡ (test x || list_any test xs)
     by_answer None q rest = let n : test x ≡ false = f 0 x refl (rw z q) in rest ∙ sym (ap (λ b. b || list_any test xs) n)
     by_answer (Some y) q rest = let n : test y ≡ test x = g 0 x y refl (rw z q) in ap (λ b. b || list_any test (filter_map F (enumerate_from (u + 1) xs))) n ∙ ap (λ b. test x || b) rest
@@ -75,6 +77,7 @@ less_by {X = X} F size u (x ∷ xs) g = by_answer (F (u, x)) refl (less_by F siz
   where
     z : u + 0 ≡ u
     z = omega arith
+
     by_answer : (o : Option X) → F (u, x) ≡ o → sum_by size (filter_map F (enumerate_from (u + 1) xs)) ≤ sum_by size xs → sum_by size (cons_option o (filter_map F (enumerate_from (u + 1) xs))) ≤ sum_by size (x ∷ xs)
     by_answer None q rest = omega (arith, rest, sum_by-cons size x xs)
     by_answer (Some y) q rest = let n : size y ≤ size x = g 0 x y refl (rw z q) in omega (arith, rest, n, sum_by-cons size x xs, sum_by-cons size y (filter_map F (enumerate_from (u + 1) xs)))
@@ -88,6 +91,7 @@ same_by {X = X} F size u (x ∷ xs) f g =
   where
     z : u + 0 ≡ u
     z = omega arith
+
     by_answer : (o : Option X) → F (u, x) ≡ o → sum_by size (filter_map F (enumerate_from (u + 1) xs)) ≡ sum_by size xs → sum_by size (cons_option o (filter_map F (enumerate_from (u + 1) xs))) ≡ sum_by size (x ∷ xs)
     by_answer None q rest = let n : size x ≡ 0 = f 0 x refl (rw z q) in omega (arith, rest, n, sum_by-cons size x xs)
     by_answer (Some y) q rest = let n : size y ≡ size x = g 0 x y refl (rw z q) in omega (arith, rest, n, sum_by-cons size x xs, sum_by-cons size y (filter_map F (enumerate_from (u + 1) xs)))

@@ -79,6 +79,7 @@ has_filter test (x ∷ xs) a h = by_test (test x) refl h (has_filter test xs a)
     here : (b : Bool) → eqb x a ≡ b → test x ≡ true → (b || has (filter test xs) a) ≡ true → (has (filter test xs) a ≡ true → test a ≡ true) → test a ≡ true
     here true q t h f = subst (λ z. test z ≡ true) (eqb-true x a q) t
     here false q t h f = f h
+
     by_test : (b : Bool) → test x ≡ b → has (cond b (x ∷ filter test xs) (filter test xs)) a ≡ true → (has (filter test xs) a ≡ true → test a ≡ true) → test a ≡ true
     by_test true t h f = here (eqb x a) refl t h f
     by_test false t h f = f h

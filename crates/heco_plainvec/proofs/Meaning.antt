@@ -30,9 +30,9 @@ same_meaning c rows h count =
     let new = along_slots c.preset (gathered_vectors c) (first_wires c rows) (gathered_gates c) in
     let parts = along_parts c.preset c.vectors (first_wires c rows) c.gates in
     let mean = outputs_mean (all_wires c rows).slots (new_wires c rows).slots (name c) c.outputs (λ i j o x e q.
-      let stands : is_cell t N (wire_parts c) x ≡ true = cells_stand t N c.inputs (wire_parts c) _ c.outputs i j o x v.outputs e q in
-      let at = get_flat (λ (p : Output). p.cells) c.outputs i j o x e q in
-      cell_means c (all_wires c rows) (new_wires c rows) (length c.inputs + length c.gates) x at.0 w.swept at.1 (subst (λ ps. is_cell t N ps x ≡ true) (sym parts) stands) (slots_pos c.preset)) in
+    let stands : is_cell t N (wire_parts c) x ≡ true = cells_stand t N c.inputs (wire_parts c) _ c.outputs i j o x v.outputs e q in
+    let at = get_flat (λ (p : Output). p.cells) c.outputs i j o x e q in
+    cell_means c (all_wires c rows) (new_wires c rows) (length c.inputs + length c.gates) x at.0 w.swept at.1 (subst (λ ps. is_cell t N ps x ≡ true) (sym parts) stands) (slots_pos c.preset)) in
     ap (λ ws. map (output_values ws) (map (output_over (name c)) c.outputs)) (sym new) ∙ mean ∙ ap (λ ws. map (output_values ws) c.outputs) old
 
 pub same_bound : (c : Plan) (a : ℕ) → IsCircuit c → a < length c.inputs + length c.gates → source c a ≡ None → slice_index (bounds_of (gathered c)) (name c a) ≡ slice_index (bounds_of c) a

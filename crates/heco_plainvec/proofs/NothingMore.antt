@@ -49,6 +49,7 @@ has_kept test (x ∷ xs) a h t = by_test (eqb x a) refl h (λ r. has_kept test x
         or_right true c h = refl
         or_right false c h = h
     there false r = r
+
     by_test : (b : Bool) → eqb x a ≡ b → (b || has xs a) ≡ true → (has xs a ≡ true → has (filter test xs) a ≡ true) → has (cond (test x) (x ∷ filter test xs) (filter test xs)) a ≡ true
     by_test true q h f =
         let e : x ≡ a = eqb-true x a q in
@@ -74,6 +75,7 @@ all_chosen c a room l s =
 same_vector : (c : Plan) (x : ℕ) → asked (gathered c) (name c x) ≡ asked c x → vector (gathered c) (name c x) ≡ vector c x
 unfolding gathered
 same_vector c x a = ap (λ xs. map (at_slot xs) (range_with_len 0 (slots_of c.preset))) a
+
 same_weighed : (c : Plan) (x : ℕ) → vector (gathered c) (name c x) ≡ vector c x → slice_index (bounds_of (gathered c)) (name c x) ≡ slice_index (bounds_of c) x → weighed_bound (gathered c) (name c x) ≡ weighed_bound c x
 unfolding gathered
 same_weighed c x v b = ap (λ z. weighed (vector_weight_of c.preset z) (slice_index (bounds_of (gathered c)) (name c x))) v ∙ ap (weighed (vector_weight_of c.preset (vector c x))) b
@@ -89,6 +91,7 @@ same_serves c x valid l s h =
     ap (λ k. leb 2 k && (agree (asked d (name c x)) && not (passes (weighed_bound d (name c x))))) n
     ∙ ap (λ xs. leb 2 (length (multiples c x)) && (agree xs && not (passes (weighed_bound d (name c x))))) a
     ∙ ap (λ e. leb 2 (length (multiples c x)) && (agree (asked c x) && not (passes e))) b
+
 -- ---- a wire with multiples is the name of one that isn't chosen
 pub record IsName (c : Plan) (a : ℕ) : Type 0 where
   pub wire : ℕ
@@ -111,15 +114,18 @@ found_from c k i base [] h here p e = absurd cc
 found_from c k i base (g ∷ gates) h here p e =
     by_stays (stays c (length c.inputs + k)) refl i e
     (λ i base q r. let next : length c.inputs + k + 1 ≡ length c.inputs + (k + 1) = omega arith in
-      found_from c (k + 1) i base gates h (λ j y z. let s : k + suc j ≡ k + 1 + j = omega arith in rw s at (here (suc j) y z)) (ap (place c) (sym next) ∙ q)
-      (subst (λ z. slice_get (filter_map (gathered_gate c) (enumerate_from z gates)) i ≡ Some h) next r))
+    found_from c (k + 1) i base gates h (λ j y z. let s : k + suc j ≡ k + 1 + j = omega arith in rw s at (here (suc j) y z)) (ap (place c) (sym next) ∙ q)
+    (subst (λ z. slice_get (filter_map (gathered_gate c) (enumerate_from z gates)) i ≡ Some h) next r))
   where
     u : ℕ
     u = length c.inputs + k
+
     here_at : slice_get c.gates k ≡ Some g
     here_at = let z : k + 0 ≡ k = omega arith in rw z at (here 0 g refl)
+
     Later : Type 0
     Later = (i base : ℕ) → place c (u + 1) ≡ length c.inputs + base → slice_get (filter_map (gathered_gate c) (enumerate_from (u + 1) gates)) i ≡ Some h → IsFound c (base + i) h
+
     by_stays : (b : Bool) → stays c u ≡ b → (i : ℕ) → slice_get (cons_option (cond b (Some (gate_where c g (source c u))) None) (filter_map (gathered_gate c) (enumerate_from (u + 1) gates))) i ≡ Some h → Later → IsFound c (base + i) h
     by_stays true t zero e later =
         let z : base + 0 ≡ base = omega arith in
@@ -150,6 +156,7 @@ name_of c a i m v e = from_multiple (multiple_is (gathered c) a i m e)
   where
     n : ℕ
     n = length c.inputs
+
     scaled : (k : ℕ) (g h : Gate) (u : ℕ) → slice_get c.gates k ≡ Some g → IsKept c u g h → h ≡ Scale m.by a → (x : ℕ) × (g ≡ Scale m.by x) × (name c x ≡ a)
     scaled k (Scale by y) h u e r q = let w : Scale by (name c y) ≡ Scale m.by a = sym r.is ∙ q in let b : by ≡ m.by = cc in (y, rw b refl, cc)
     scaled k (Neg y) h u e r q = absurd (let w : Neg (name c y) ≡ Scale m.by a = sym r.is ∙ q in cc)
@@ -160,6 +167,7 @@ name_of c a i m v e = from_multiple (multiple_is (gathered c) a i m e)
     scaled k (Shift j y) h u e r q = absurd (let w : Shift j (name c y) ≡ Scale m.by a = sym r.is ∙ q in cc)
     scaled k (Turn j y) h u e r q = absurd (let w : Turn j (name c y) ≡ Scale m.by a = sym r.is ∙ q in cc)
     scaled k (Weigh j y) h u e r q = absurd (let w : Weigh j (name c y) ≡ Scale m.by a = sym r.is ∙ q in cc)
+
     -- the multiple's own wire is the name of the gate's
     unchosen : (k x : ℕ) → slice_get c.gates k ≡ Some (Scale m.by x) → source c (n + k) ≡ None → cell_only (gathered c) (name c (n + k)) ≡ true → has (chosen c) x ≡ false
     unchosen k x e s o = by_test (has (chosen c) x) refl
@@ -169,6 +177,7 @@ name_of c a i m v e = from_multiple (multiple_is (gathered c) a i m e)
         by_test true t =
             let only : cell_only c (n + k) ≡ true = sym (same_cell_only c (n + k) s) ∙ o in
             absurd (let f : None ≡ Some x = sym s ∙ source_has c x k m.by e only t in cc)
+
     from_multiple : IsMultiple (gathered c) a m → IsName c a
     from_multiple r =
         let f : IsFound c r.place (Scale m.by a) = found_in c r.place (Scale m.by a) (gate_there c a m r) in
@@ -207,6 +216,7 @@ nothing_more c a h = by_room (ltb (length (gathered c).vectors) most_vectors) re
         let y : serves c x.wire ≡ true = sym (same_serves c x.wire h x.below x.source_is x.other) ∙ ap (serves (gathered c)) x.is ∙ s in
         let z = all_chosen c x.wire (room_there c t) x.below y in
         absurd (let f : true ≡ false = sym z ∙ x.other in cc)
+
     by_room : (b : Bool) → ltb (length (gathered c).vectors) most_vectors ≡ b → (b && serves (gathered c) a) ≡ false
     by_room false t = refl
     by_room true t = by_serves (serves (gathered c) a) refl t

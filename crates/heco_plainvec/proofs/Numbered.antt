@@ -73,6 +73,7 @@ found {X = X} {Y = Y} h u (x ∷ xs) i y e = by_answer (h (u, x)) refl i e (λ j
   where
     later : (k : ℕ) × (z : X) × (slice_get xs k ≡ Some z) × (h (u + 1 + k, z) ≡ Some y) → (k : ℕ) × (z : X) × (slice_get (x ∷ xs) k ≡ Some z) × (h (u + k, z) ≡ Some y)
     later r = let s : u + suc r.0 ≡ u + 1 + r.0 = omega arith in (suc r.0, r.1, r.2, rw s (r.3))
+
     by_answer : (o : Option Y) → h (u, x) ≡ o → (i : ℕ) → slice_get (cons_option o (filter_map h (enumerate_from (u + 1) xs))) i ≡ Some y
         → ((j : ℕ) → slice_get (filter_map h (enumerate_from (u + 1) xs)) j ≡ Some y → (k : ℕ) × (z : X) × (slice_get (x ∷ xs) k ≡ Some z) × (h (u + k, z) ≡ Some y))
         → (k : ℕ) × (z : X) × (slice_get (x ∷ xs) k ≡ Some z) × (h (u + k, z) ≡ Some y)

@@ -66,12 +66,16 @@ cell_means c old new u (Slot wire slot) i s e v pos = by_source (source c wire) 
   where
     t : ℕ
     t = modulus_of c.preset
+
     w : (has_parts 2 old.parts wire ≡ true) × (is_between 0 (slots_of c.preset - 1) slot ≡ true)
     w = both_true (has_parts 2 old.parts wire) (is_between 0 (slots_of c.preset - 1) slot) v
+
     below : wire < u
     below = rw (← (s.old_long)) (ltb-true wire (length old.parts) (both_true (is_wire old.parts wire) (eqb (slice_index old.parts wire) 2) w.0).0)
+
     slot_below : slot < slots_of c.preset
     slot_below = let l = leb-true slot (slots_of c.preset - 1) (both_true (leb 0 slot) (leb slot (slots_of c.preset - 1)) w.1).1 in omega (arith, l, pos)
+
     by_source : (o : Option ℕ) → source c wire ≡ o → slice_index (wire_at new.slots (name c wire)) slot ≡ slice_index (wire_at old.slots wire) slot
     by_source None q = ap (λ k. slice_index (slots_known k) slot) (s.before.each wire below q)
     by_source (Some a) q =

@@ -37,9 +37,9 @@ pub place_apart : (c : Plan) (u v : ℕ) → stays c u ≡ true → stays c v �
 place_apart c u v h k e = elim (cases_lt u v) [
   | inl l ↦ absurd (let m = place_before c u v h l in omega (arith, m, e))
   | inr ge ↦ (elim (cases_lt v u) [
-      | inl l ↦ absurd (let m = place_before c v u k l in omega (arith, m, e))
-      | inr le ↦ omega (arith, ge, le)
-    ])
+    | inl l ↦ absurd (let m = place_before c v u k l in omega (arith, m, e))
+    | inr le ↦ omega (arith, ge, le)
+  ])
 ]
 
 -- all inputs stay

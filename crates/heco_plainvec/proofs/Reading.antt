@@ -102,11 +102,13 @@ old_read c a h =
   where
     n : ℕ
     n = length c.inputs
+
     given : (k : ℕ) (g : Gate) (o : Option ℕ) → slice_get c.gates k ≡ Some g → source c (n + k) ≡ o → stays c (n + k) ≡ true → reads (gate_where c g o) (name c a) ≡ true → list_any (reads_of (name c a)) (gathered_gates c) ≡ true
     given k g o e s t h =
         let q : gathered_gate c (n + k, g) ≡ Some (gate_where c g o) = ap (λ b. cond b (Some (gate_where c g (source c (n + k)))) None) t ∙ ap (λ z. Some (gate_where c g z)) s in
         let i = there (gathered_gate c) n c.gates k g (gate_where c g o) e q in
         any_there (reads_of (name c a)) (gathered_gates c) i.0 (gate_where c g o) i.1 h
+
     by_source : (k : ℕ) (g : Gate) → slice_get c.gates k ≡ Some g → reads g a ≡ true → (o : Option ℕ) → source c (n + k) ≡ o → list_any (reads_of (name c a)) (gathered_gates c) ≡ true
     by_source k g e h None s = given k g None e s (source_stays c (n + k) s) (reads_over (name c) g a h)
     by_source k g e h (Some of) s =

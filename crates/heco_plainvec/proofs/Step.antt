@@ -80,23 +80,27 @@ stay : (c : Plan) (u : ℕ) (old new : Wires) (g : Gate) → Earlier c → IsSwe
 stay c u old new g early s n e =
     rw (image c u g None true e t) (placed c u old new g h s t
     (before_last c u (behind c.preset c.vectors old g) (behind c.preset ws new h)
-      (before_new c u (behind c.preset c.vectors old g) new h s.new_even s.new_long (before_old c u old new g early s.old_even s.old_long s.before))
-      (λ q. last_new c u old new h s (leader_itself c u e) ∙ same ∙ sym (last_old c u old new g s))
-      (λ of q. absurd (let f : None ≡ Some of = sym e ∙ q in cc)))
+    (before_new c u (behind c.preset c.vectors old g) new h s.new_even s.new_long (before_old c u old new g early s.old_even s.old_long s.before))
+    (λ q. last_new c u old new h s (leader_itself c u e) ∙ same ∙ sym (last_old c u old new g s))
+    (λ of q. absurd (let f : None ≡ Some of = sym e ∙ q in cc)))
     (over_is_gate (modulus_of c.preset) (slots_of c.preset) c.vectors ws (name c) old new g (keeps c) (stand (name c) old new g ops) n.valid)
     (ap (λ k. passes (bound_known k)) same ∙ n.quiet))
   where
     ws : List (List ℕ)
     ws = gathered_vectors c
+
     h : Gate
     h = over (name c) g
+
     t : stays c u ≡ true
     t = source_stays c u e
+
     ops : OperandsKnown (name c) old new g
     ops a i =
         let below : a < length old.parts = gate_below (modulus_of c.preset) (slots_of c.preset) (length c.vectors) old.parts g n.valid a i in
         let l : a < u = rw (← (s.old_long)) below in
         (rw (s.new_long) (name_below c a u l), s.before.each a l (operand_stays c n.place g a n.here i))
+
     same : given c.preset ws new h ≡ given c.preset c.vectors old g
     same = given_over c.preset c.vectors ws (name c) old new g (keeps c) ops n.valid
 
@@ -109,43 +113,61 @@ goes c u of old new g early s n e = by_stays (stays c u) refl
   where
     id : ℕ
     id = c.preset
+
     ws : List (List ℕ)
     ws = gathered_vectors c
+
     old' : Wires
     old' = behind c.preset c.vectors old g
+
     is : IsSource c u of
     is = source_is c u of e
+
     is_chosen : has (chosen c) of ≡ true
     is_chosen = is.is_chosen
+
     served_is : Served c of
     served_is = served c of (chosen_serves c of is_chosen)
+
     gate_is : Scale is.by of ≡ g
     gate_is =
         let a = is.number in let b = n.number in
         let q : is.place ≡ n.place = omega (arith, a, b) in
         same_gate (Scale is.by of) g (sym is.gate ∙ ap (slice_get c.gates) q ∙ n.here)
+
     made : maker (length c.inputs) c.gates u ≡ Some (Scale is.by of)
     made = ap (maker (length c.inputs) c.gates) is.number ∙ maker_at (length c.inputs) c.gates is.place ∙ is.gate
+
     of_below : of < u
     of_below = source_earlier c early u of e
+
     of_stays : source c of ≡ None
     of_stays = operand_stays c is.place (Scale is.by of) of is.gate (first of [])
+
     of_known : known new (name c of) ≡ known old of
     of_known = s.before.each of of_below of_stays
+
     of_kept : known old' of ≡ known old of
     of_kept = known_more c.preset c.vectors old g of s.old_even (rw (s.old_long) of_below)
+
     own : known old' u ≡ given c.preset c.vectors old (Scale is.by of)
     own = last_old c u old new g s ∙ ap (given c.preset c.vectors old) (sym gate_is)
+
     scaled : wire_at old'.slots u ≡ map (λ x. (is.by * x) % modulus_of c.preset) (wire_at old'.slots of)
     scaled = ap slots_known own ∙ sym (ap (λ k. map (λ x. (is.by * x) % modulus_of c.preset) (slots_known k)) of_kept)
+
     parts_are : slice_index old'.parts u ≡ slice_index old'.parts of
     parts_are = ap parts_known own ∙ sym (ap parts_known of_kept)
+
     none_stays : source c u ≡ None → ⊥
     none_stays q = let f : None ≡ Some of = sym q ∙ e in cc
+
     one_source : (x : ℕ) → source c u ≡ Some x → of ≡ x
     one_source x q = let f : Some of ≡ Some x = sym e ∙ q in cc
+
     h : Gate
     h = Weigh (vector_number c of) (name c of)
+
     by_stays : (b : Bool) → stays c u ≡ b → IsStep c u old new g (gathered_gate c (u, g))
     by_stays true t =
         let l : leader c u ≡ u = eqb-true (leader c u) u t in
@@ -158,11 +180,11 @@ goes c u of old new g early s n e = by_stays (stays c u) refl
         let gone : IsGone c old' new' u of = record { by = is.by; gate = made; scaled = scaled; parts_are = parts_are; parts = parts; weighed = weighed } in
         rw (image c u g (Some of) true e t) (placed c u old new g h s t
         (before_last c u old' new'
-          (before_new c u old' new h s.new_even s.new_long (before_old c u old new g early s.old_even s.old_long s.before))
-          (λ q. absurd (none_stays q))
-          (λ x q. subst (IsGone c old' new' u) (one_source x q) gone))
+        (before_new c u old' new h s.new_even s.new_long (before_old c u old new g early s.old_even s.old_long s.before))
+        (λ q. absurd (none_stays q))
+        (λ x q. subst (IsGone c old' new' u) (one_source x q) gone))
         (and_true (ltb (vector_number c of) (length ws)) (is_wire new.parts (name c of)) (lt-ltb (vector_number c of) (length ws) (vector_below c of is_chosen))
-          (lt-ltb (name c of) (length new.parts) (rw (s.new_long) (name_below c of u of_below))))
+        (lt-ltb (name c of) (length new.parts) (rw (s.new_long) (name_below c of u of_below))))
         (ap passes bound ∙ served_is.quiet))
       where
         bound : bound_of c.preset (weights_of c.preset ws) new.bounds h ≡ weighed_bound c of

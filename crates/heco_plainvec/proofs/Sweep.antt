@@ -78,8 +78,10 @@ sweep c u old new (g ∷ gates) early s n =
     quiet : (passes (bound_of c.preset (weights_of c.preset c.vectors) old.bounds g) ≡ false)
         × (first_passing c.preset (weights_of c.preset c.vectors) (n.from + 1) (with_bound c.preset (weights_of c.preset c.vectors) old.bounds g) gates ≡ None)
     quiet = quiet_first c.preset (weights_of c.preset c.vectors) n.from old.bounds g gates n.quiet
+
     formed : (is_gate (modulus_of c.preset) (slots_of c.preset) (length c.vectors) old.parts g ≡ true) × (may_stand c (length c.vectors) (with_gate old.parts g) gates ≡ true)
     formed = both_true (is_gate (modulus_of c.preset) (slots_of c.preset) (length c.vectors) old.parts g) (may_stand c (length c.vectors) (with_gate old.parts g) gates) n.formed
+
     next : IsNext c u old g
     next = record {
       place = n.place;
@@ -91,8 +93,10 @@ sweep c u old new (g ∷ gates) early s n =
           ap (λ xs. slice_index xs a) n.bounds
           ∙ ap bound_known (known_along c.preset c.vectors old (g ∷ gates) a s.old_even (rw (s.old_long) l));
     }
+
     here : IsStep c u old new g (gathered_gate c (u, g))
     here = step c u old new g early s next
+
     rest : AreNext c (u + 1) (behind c.preset c.vectors old g) gates
     rest = record {
       place = n.place + 1;

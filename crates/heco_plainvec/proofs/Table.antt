@@ -91,20 +91,26 @@ table_from c x k [] here s h = refl
 table_from c x k (g ∷ gates) here s h =
     by_source (source c (length c.inputs + k)) refl
     (let next : length c.inputs + k + 1 ≡ length c.inputs + (k + 1) = omega arith in
-      rw next (table_from c x (k + 1) gates (λ j y e. let q : k + suc j ≡ k + 1 + j = omega arith in rw q at (here (suc j) y e)) s h))
+    rw next (table_from c x (k + 1) gates (λ j y e. let q : k + suc j ≡ k + 1 + j = omega arith in rw q at (here (suc j) y e)) s h))
   where
     u : ℕ
     u = length c.inputs + k
+
     here_at : slice_get c.gates k ≡ Some g
     here_at = let z : k + 0 ≡ k = omega arith in rw z at (here 0 g refl)
+
     Rest : Type 0
     Rest = new_multiples c x (place c (u + 1)) (filter_map (gathered_gate c) (enumerate_from (u + 1) gates)) ≡ map (renamed c) (filter_map (multiple_of (cell_only c) x) (enumerate_from (u + 1) gates))
+
     more : List Gate
     more = filter_map (gathered_gate c) (enumerate_from (u + 1) gates)
+
     olds : List Multiple
     olds = filter_map (multiple_of (cell_only c) x) (enumerate_from (u + 1) gates)
+
     here_is : (b : Bool) (o : Option ℕ) → stays c u ≡ b → source c u ≡ o → gathered_gate c (u, g) ≡ cond b (Some (gate_where c g o)) None
     here_is b o t q = ap (λ b. cond b (Some (gate_where c g (source c u))) None) t ∙ ap (λ o. cond b (Some (gate_where c g o)) None) q
+
     -- the gate is there under its new number
     kept : (h' : Gate) (o : Option Multiple) → stays c u ≡ true → gathered_gate c (u, g) ≡ Some h' → multiple_where (cell_only (gathered c) (place c u)) (name c x) (place c u) h' ≡ option_map (renamed c) o → multiple_where (cell_only c u) x u g ≡ o → Rest
         → new_multiples c x (place c u) (cons_option (gathered_gate c (u, g)) more) ≡ map (renamed c) (cons_option (multiple_where (cell_only c u) x u g) olds)
@@ -115,6 +121,7 @@ table_from c x k (g ∷ gates) here s h =
         ∙ ap (cons_option (option_map (renamed c) o)) rest
         ∙ sym (map_option c o olds)
         ∙ ap (λ z. map (renamed c) (cons_option z olds)) (sym w)
+
     by_source : (o : Option ℕ) → source c u ≡ o → Rest
         → new_multiples c x (place c u) (cons_option (gathered_gate c (u, g)) more) ≡ map (renamed c) (cons_option (multiple_where (cell_only c u) x u g) olds)
     by_source None q rest =
@@ -126,6 +133,7 @@ table_from c x k (g ∷ gates) here s h =
       where
         none : multiple_where (cell_only c u) x u g ≡ None
         none = other_multiple c u k x of g refl here_at q h
+
         by_stays : (b : Bool) → stays c u ≡ b → new_multiples c x (place c u) (cons_option (gathered_gate c (u, g)) more) ≡ map (renamed c) (cons_option (multiple_where (cell_only c u) x u g) olds)
         by_stays true t = kept (gate_where c g (Some of)) None t (here_is true (Some of) t q) refl none rest
         by_stays false t =

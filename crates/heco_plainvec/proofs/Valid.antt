@@ -82,10 +82,10 @@ outputs_are c v w =
     let t : ℕ = modulus_of c.preset in
     let N : ℕ = slots_of c.preset in
     outputs_stand t N c.inputs (wire_parts c) (along with_gate (input_parts c.inputs) (gathered_gates c)) (name c) [] c.outputs v.outputs (λ i j o x e q.
-      let old : is_cell t N (wire_parts c) x ≡ true = cells_stand t N c.inputs (wire_parts c) [] c.outputs i j o x v.outputs e q in
-      let here : is_cell t N (all_wires c (no_rows c)).parts x ≡ true = subst (λ ps. is_cell t N ps x ≡ true) (sym (old_parts c)) old in
-      let new = cell_stands c (all_wires c (no_rows c)) (new_wires c (no_rows c)) (length c.inputs + length c.gates) x w.swept here in
-      subst (λ ps. is_cell t N ps (cell_over (name c) x) ≡ true) (new_parts c) new)
+    let old : is_cell t N (wire_parts c) x ≡ true = cells_stand t N c.inputs (wire_parts c) [] c.outputs i j o x v.outputs e q in
+    let here : is_cell t N (all_wires c (no_rows c)).parts x ≡ true = subst (λ ps. is_cell t N ps x ≡ true) (sym (old_parts c)) old in
+    let new = cell_stands c (all_wires c (no_rows c)) (new_wires c (no_rows c)) (length c.inputs + length c.gates) x w.swept here in
+    subst (λ ps. is_cell t N ps (cell_over (name c) x) ≡ true) (new_parts c) new)
 
 pub gathered_valid : (c : Plan) → IsCircuit c → HasRoom c → IsCircuit (gathered c)
 unfolding gathered

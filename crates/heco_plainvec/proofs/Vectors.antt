@@ -18,6 +18,7 @@ position_there (x ∷ xs) a h = by_test (eqb x a) refl h (position_there xs a)
   where
     p : ℕ
     p = position_or_len (λ x. eqb x a) xs
+
     by_test : (b : Bool) → eqb x a ≡ b → (b || has xs a) ≡ true → (has xs a ≡ true → (p < length xs) × (get_or xs p 0 ≡ a))
         → (cond (not b) (1 + p) 0 < suc (length xs)) × (get_or (x ∷ xs) (cond (not b) (1 + p) 0) 0 ≡ a)
     by_test true t h f = (omega arith, eqb-true x a t)

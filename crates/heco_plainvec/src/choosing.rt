@@ -9,7 +9,7 @@ ghost use Rattle.heco_plainvec.specs.Finding.{IsAsk, product_by, where_room, num
 
 use crate::multiple::{Asked, Multiple, Product};
 use crate::product::product_by;
-use heco_circuit::{valid_circuits_are_quiet, Circuit};
+use heco_circuit::{Circuit, valid_circuits_are_quiet};
 use heco_nums::{List, Memory};
 use heco_rewrites::copied_vectors;
 use heco_slots::SlotTable;

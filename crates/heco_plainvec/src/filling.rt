@@ -22,11 +22,7 @@ fn put_constant(vector: &mut Vec<u32>, ask: Asked) -> bool
 }
 
 /// Each constant at the slots that are asked of it, else 0, where no slot is asked with two.
-pub fn vector_of(
-    alloc: Global,
-    p: &Preset,
-    asks: &[Asked],
-) -> Result<Option<List<u32>>, Memory>
+pub fn vector_of(alloc: Global, p: &Preset, asks: &[Asked]) -> Result<Option<List<u32>>, Memory>
     requires { All (IsAsk p.now.id) asks.now }
     ensures { IfOk result (λ found. found ≡ (if agree asks.now then Some (vector_of p.now.id asks.now) else None)) }
 {

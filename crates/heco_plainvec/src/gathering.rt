@@ -3,11 +3,11 @@ ghost use Rattle.heco_plainvec.specs.Gathered.{gathered};
 ghost use Rattle.heco_plainvec.specs.Gathering.{HasRoom};
 
 use crate::asks::asks_of;
-use crate::choosing::{choices_of, Choices};
+use crate::choosing::{Choices, choices_of};
 use crate::groups::multiples_of;
 use crate::reads::reads_of;
-use crate::rewriting::{rewrite, Rewritten};
-use heco_circuit::{bounds, Circuit};
+use crate::rewriting::{Rewritten, rewrite};
+use heco_circuit::{Circuit, bounds};
 use heco_nums::Memory;
 use heco_rewrites::{copied_inputs, outputs_over};
 use std::alloc::Global;
@@ -31,11 +31,7 @@ pub fn gather(alloc: Global, c: Circuit) -> Result<Circuit, Memory>
     )?;
     let rewritten = rewrite(alloc, &c, reads.as_slice(), choices.products.as_slice())?;
     let inputs = copied_inputs(alloc, c.inputs().as_slice())?;
-    let outputs = outputs_over(
-        alloc,
-        rewritten.names.as_slice(),
-        c.outputs().as_slice(),
-    )?;
+    let outputs = outputs_over(alloc, rewritten.names.as_slice(), c.outputs().as_slice())?;
     let Choices { vectors, .. } = choices;
     let Rewritten { gates, .. } = rewritten;
     Ok(Circuit::make_with(c.preset(), inputs, vectors, gates, outputs))

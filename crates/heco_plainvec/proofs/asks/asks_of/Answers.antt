@@ -26,7 +26,7 @@ returns c =
     let m = c.loop-rest.invariant.long in
     let gone = none_left c.loop-rest.rest.now c.in_default.len_below in
     c.from_vec.ensures ∙ ext_get_or [] c.loop-rest.asks.items (map (asked k) (wires k)) (omega (arith, m, n)) (λ a l.
-      let la : a < length k.inputs + length k.gates = omega (arith, m, l) in
-      sym (append-nil (get_or c.loop-rest.asks.items a []))
-      ∙ sym (ap (λ ys. get_or c.loop-rest.asks.items a [] ++ flat_map (asked_by (multiples k a)) (flat_map (λ (o : Output). o.cells) ys)) gone)
-      ∙ c.loop-rest.invariant.each a la ∙ sym (each_at (asked k) k a [] la))
+    let la : a < length k.inputs + length k.gates = omega (arith, m, l) in
+    sym (append-nil (get_or c.loop-rest.asks.items a []))
+    ∙ sym (ap (λ ys. get_or c.loop-rest.asks.items a [] ++ flat_map (asked_by (multiples k a)) (flat_map (λ (o : Output). o.cells) ys)) gone)
+    ∙ c.loop-rest.invariant.each a la ∙ sym (each_at (asked k) k a [] la))

@@ -16,8 +16,8 @@ returns-in-Some-clause-each c =
     let k = c.args.c.now in
     let s = c.in-Some.s in
     on_ok_weaker c.put_at.result (λ h a l.
-      h a l ∙ behind (get_or c.args.asks.now.items a []) (asked_by (multiples k a) c.args.cell) (record { slot = c.in-Slot.slot; by = s.by }) (eqb s.of a)
-      (ap (asked_by (multiples k a)) c.in-Slot.is ∙ asked_one k a c.in-Slot.wire c.in-Slot.slot ∙ ap (asks_where a c.in-Slot.slot) (sym c.in-Some.ensures)))
+    h a l ∙ behind (get_or c.args.asks.now.items a []) (asked_by (multiples k a) c.args.cell) (record { slot = c.in-Slot.slot; by = s.by }) (eqb s.of a)
+    (ap (asked_by (multiples k a)) c.in-Slot.is ∙ asked_one k a c.in-Slot.wire c.in-Slot.slot ∙ ap (asks_where a c.in-Slot.slot) (sym c.in-Some.ensures)))
     c.put_at.ensures.each
 
 pub returns-in-None-clause-each : goal.returns-in-None-clause-each

@@ -42,5 +42,5 @@ returns c =
     let m = c.loop-i.invariant.long in
     let all : take c.loop-i.i k.gates ≡ k.gates = take_all c.loop-i.i k.gates (omega (arith, ap length gs)) in
     c.from_vec.ensures ∙ ext_get_or [] c.loop-i.groups.items (map (multiples k) (wires k)) (omega (arith, m, n)) (λ a l.
-      let la : a < length k.inputs + length k.gates = omega (arith, m, l) in
-      c.loop-i.invariant.each a la ∙ ap (λ xs. filter_map (multiple_of (cell_only k) a) (enumerate_from (length k.inputs) xs)) all ∙ sym (each_at (multiples k) k a [] la))
+    let la : a < length k.inputs + length k.gates = omega (arith, m, l) in
+    c.loop-i.invariant.each a la ∙ ap (λ xs. filter_map (multiple_of (cell_only k) a) (enumerate_from (length k.inputs) xs)) all ∙ sym (each_at (multiples k) k a [] la))

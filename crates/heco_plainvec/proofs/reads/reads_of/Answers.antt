@@ -16,5 +16,5 @@ returns c =
     let long = c.loop-rest.invariant.long in
     let gone = none_left c.loop-rest.rest.now c.in_default.len_below in
     c.from_vec.ensures ∙ ext_get_or false ms (map (is_read k) (wires k)) (omega (arith, n, w, long, c.requires)) (λ a l.
-      sym (or-false (get_or ms a false)) ∙ sym (ap (λ gs. get_or ms a false || list_any (λ g. reads g a) gs) gone)
-      ∙ c.loop-rest.invariant.marked a (omega (arith, l, long)) ∙ sym (each_at (is_read k) k a false (omega (arith, l, long, w, c.requires))))
+    sym (or-false (get_or ms a false)) ∙ sym (ap (λ gs. get_or ms a false || list_any (λ g. reads g a) gs) gone)
+    ∙ c.loop-rest.invariant.marked a (omega (arith, l, long)) ∙ sym (each_at (is_read k) k a false (omega (arith, l, long, w, c.requires))))
