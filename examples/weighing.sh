@@ -1,8 +1,8 @@
 #!/usr/bin/env bash
-# Two numbers times 2 and 3 by one product with a plain vector: a circuit file of version 3 that is written here byte by
-# byte, since `compile` writes no vector: its listing, its keys, its run on encrypted inputs, and the noise of that run.
-# Then the same bytes under version 2, which are refused at the tag of the product. Prints `y = 8 15`. HECO may name
-# another program than ./heco.
+# Two numbers times 2 and 3: `compile` makes one product with a plain vector of both, so its circuit file has version 3, and
+# is compared with one that is written here byte by byte; its listing, its keys, its run on encrypted inputs, and the noise
+# of that run. Then the same bytes under version 2, which are refused at the tag of the product. Prints `y = 8 15`. HECO may
+# name another program than ./heco.
 set -eu
 cd "$(dirname "${BASH_SOURCE[0]}")"
 heco=$(realpath "${HECO:-../heco}")
@@ -19,7 +19,16 @@ vectors="00000001  00000002 00000003 00000000 00000000 00000000 00000000 0000000
 gates="00000001  09 00000000 00000000
   0001  00000001 79 0002  01 00000001 0000  01 00000001 0001"
 
-bytes "${ports/VERSION/03} $vectors $gates" >cir
+cat >source.he <<'SOURCE'
+params p8;
+fn f(in x[2], out y[2]) {
+  int w[2] = {2, 3};
+  for i in 0..2 { y[i] = w[i]*x[i]; }
+}
+SOURCE
+"$heco" compile source.he cir
+bytes "${ports/VERSION/03} $vectors $gates" | cmp - cir
+
 cat >listing <<'LISTING'
 params p8
 in x[2]
