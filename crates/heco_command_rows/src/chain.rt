@@ -153,6 +153,8 @@ const DECRYPT: &str = "0|0|set copy 18 01;show copy|3|copy: Malformed at 19$|
 const COMPILE: &str =
     "0|0|put f.he params p8~fn f(in x, out y) { y = x~ };compile f.he c;draw c 7 k e;keys c k s v;put i x = 5;encrypt c v e i r;set r 0 48524553;decrypt c s r|0||y = 5$
 0|1|put f.he params p8~fn f(in x, out y) { y = x*x~ };compile f.he c|0||
+0|0|put f.he params p8~fn f(in x[2], out y[2]) { int w[2] = {2, 3}~ for i in 0..2 { y[i] = w[i]*x[i]~ } };compile f.he c;show c|0||params p8$in x[2]$vector 0 2 3 0 0 0 0 0 0$1 Weigh 0 0 : 4825310$out y[2] = 1@0 1@1$
+0|0|put f.he params p8~fn f(in x[2], out y[2]) { int w[2] = {2, 3}~ for i in 0..2 { y[i] = w[i]*x[i]~ } };compile f.he c;hex d 484349520301000100000001780002000000010000000200000003000000000000000000000000000000000000000000000000000000010900000000000000000001000000017900020100000001000001000000010001;same c d;draw c 7 k e;keys c k s v;put i x = 4 5;encrypt c v e i t;run c v t r;decrypt c s r|0||y = 8 15$
 0|0|put deep.he params p8~fn f(in x, out y) { y = x*x~ y = y*y~ y = y*y~ y = y*y~ };compile deep.he c;absent c|1|deep.he: TooDeep out 0 index 0 bound 863747166108134984309$|
 0|0|put f.he params p8~fn f(in x, out y[2]) { y[1] = x~ y[2] = x~ };compile f.he c;absent c|1|f.he:1:44: IndexRange$|
 0|0|put f.he params p8~fn f(in x, out y) { y = z~ };compile f.he c;absent c|1|f.he:1:35: UnknownName$|

@@ -24,6 +24,7 @@ f(in x, in z, out y, out w[2]) { w[1] = x - z; y = -x; }|x = 2$z = 3|y = 255$w =
 f(in x, in z, out y, out w) { w = x*z; y = x; }|x = 2$z = 3|y = 2$w = 6$
 f(in a[8], in b[8], out s) { for i in 0..8 { s += (a[i]-b[i])*(a[i]-b[i]); } }|a = 1 0 1 1 0 0 1 0$b = 1 1 0 1 0 1 1 0|s = 3$
 f(in x[3], out y) { int w[3] = {2, 3, 1}; for i in 0..3 { y += w[i]*x[i]; } }|x = 4 5 6|y = 29$
+f(in x[2], out y[2]) { int w[2] = {2, 3}; for i in 0..2 { y[i] = w[i]*x[i]; } }|x = 4 5|y = 8 15$
 params p8; def sq(x) = x*x; fn f(in a[8], in b[8], out s) { for i in 0..8 { s += sq(a[i]-b[i]); } }|a = 1 0 1 1 0 0 1 0$b = 1 1 0 1 0 1 1 0|s = 3$
 f(in a[8], out y[8]) { for i in 0..8 { if i { y[i] = a[i-1]; } else { y[i] = a[7]; } } }|a = 1 2 3 4 5 6 7 8|y = 8 1 2 3 4 5 6 7$
 params p8;$fn f(in x, out y) {$y = `64*(`x`64*)`;$}|x = 9|y = 9$";

@@ -14,6 +14,7 @@ f(in x) { }|x = 1|x = 2||
 f(in x, out y) { y = x + 1; }|x = 0|x = 256|y = 1$|y = 0$
 f(in x, in z, out y, out w[2]) { w[1] = x - z; y = -x; }|x = 2$z = 3|z = 2$x = 3|y = 255$w = 0 256$|y = 254$w = 0 1$
 f(in x[3], out y) { int w[3] = {2, 3, 1}; for i in 0..3 { y += w[i]*x[i]; } }|x = 4 5 6|x = 1 0 0|y = 29$|y = 2$
+f(in x[2], out y[2]) { int w[2] = {2, 3}; for i in 0..2 { y[i] = w[i]*x[i]; } }|x = 4 5|x = 1 256|y = 8 15$|y = 2 254$
 f(in a[8], out y[8]) { for i in 0..8 { if i { y[i] = a[i-1]; } else { y[i] = a[7]; } } }|a = 1 2 3 4 5 6 7 8|a = 5 0 0 0 0 0 0 0|y = 8 1 2 3 4 5 6 7$|y = 0 5 0 0 0 0 0 0$";
 
 // The same of larger presets.
