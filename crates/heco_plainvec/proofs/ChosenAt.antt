@@ -9,13 +9,19 @@ use Rattle.std.proofs.lemmas.List.Elements.{filter-append}
 use Rattle.heco_noise.specs.Rows.{passes}
 use Rattle.heco_thrift.specs.Thrift.{bounds_of}
 use Rattle.std.specs.Prelude.{slice_index}
+use Rattle.heco_fields.specs.Runs.{along}
+use Rattle.heco_circuit.specs.declared.gate.Gate.{Gate}
+use Rattle.heco_circuit.specs.Bounds.{bound_of, with_bound, weights_of, fresh_bounds}
 use Rattle.heco_circuit.specs.Plans.{Plan}
 use Rattle.heco_rewrites.specs.Needed.{has}
+use Rattle.heco_plainvec.specs.declared.multiple.Asked.{Asked}
+use Rattle.heco_plainvec.specs.declared.multiple.Multiple.{Multiple}
 use Rattle.heco_plainvec.specs.declared.multiple.Product.{Product}
 use Rattle.heco_plainvec.specs.Gathering.{multiples, asked, agree, vector, weighed_bound, serves, wires, chosen, most_vectors}
 use Rattle.heco_plainvec.specs.Gathered.{first_multiple, vector_number}
 use Rattle.heco_plainvec.specs.Finding.{product_by, where_room, numbered_product, product_at}
 use Rattle.heco_plainvec.proofs.Leaders.{chosen_serves}
+use Rattle.heco_plainvec.proofs.Whole.{length-fresh_bounds}
 
 -- the wires below a for which a product serves, and those of them that are chosen
 abbrev pub served_below : Plan → ℕ → List ℕ
@@ -61,7 +67,11 @@ take_one : (k : ℕ) (xs : List ℕ) (b : Bool) (x : ℕ) → take k (xs ++ cond
 take_one zero [] true x = refl
 take_one zero [] false x = refl
 take_one zero (y ∷ xs) b x = ap (λ t. cond (t && b) (x ∷ []) []) (sym (le-ltb (length (y ∷ xs)) 0 (omega arith)))
-take_one (suc k) [] true x = sym (ap (λ t. cond (t && true) (x ∷ []) []) (lt-ltb 0 (suc k) (omega arith)))
+take_one (suc k) [] true x = ap (λ ys. x ∷ ys) (take_none k) ∙ sym (ap (λ t. cond (t && true) (x ∷ []) []) (lt-ltb 0 (suc k) (omega arith)))
+  where
+    take_none : (n : ℕ) → take {A = ℕ} n [] ≡ []
+    take_none zero = refl
+    take_none (suc n) = refl
 take_one (suc k) [] false x = sym (ap (λ t. cond (t && false) (x ∷ []) []) (lt-ltb 0 (suc k) (omega arith)))
 take_one (suc k) (y ∷ xs) b x = ap (λ zs. y ∷ zs) (take_one k xs b x ∙ ap (λ t. take k xs ++ cond (t && b) (x ∷ []) []) (same (length xs) k))
   where
@@ -216,3 +226,25 @@ length-vectors c a = let l = length-append c.vectors (map (vector c) (chosen_bel
 
 pub few_chosen : (c : Plan) (a : ℕ) → length c.vectors ≤ 256 → length c.vectors + length (chosen_below c a) ≤ 256
 few_chosen c a l = let t = length-take (room c) (served_below c a) in omega (arith, t, l)
+
+-- ---- what the lists of the wires say
+pub length-bounds : (c : Plan) → length (bounds_of c) ≡ length c.inputs + length c.gates
+length-bounds c = length-more (fresh_bounds c.preset c.inputs) c.gates ∙ ap (λ n. n + length c.gates) (length-fresh_bounds c.preset c.inputs)
+  where
+    length-more : (bounds : List ℕ) (gates : List Gate) → length (along (with_bound c.preset (weights_of c.preset c.vectors)) bounds gates) ≡ length bounds + length gates
+    length-more bounds [] = omega arith
+    length-more bounds (g ∷ gates) =
+        let r = length-more (with_bound c.preset (weights_of c.preset c.vectors) bounds g) gates in
+        let l = length-append bounds (bound_of c.preset (weights_of c.preset c.vectors) bounds g ∷ []) in
+        omega (arith, r, l)
+
+pub all_chosen : (c : Plan) (a : ℕ) → a ≡ length c.inputs + length c.gates → chosen_below c a ≡ chosen c
+unfolding chosen
+all_chosen c a e = ap (chosen_below c) e
+
+pub found_from : (c : Plan) (a count id bound : ℕ) (ms : List Multiple) (asks : List Asked) → count ≡ length c.vectors + length (chosen_below c a) → id ≡ c.preset → ms ≡ multiples c a → asks ≡ asked c a → bound ≡ slice_index (bounds_of c) a
+    → where_room count (product_by id ms asks bound) ≡ found_at c a
+found_from c a count id bound ms asks n i m s b =
+    ap (λ x. where_room x (product_by id ms asks bound)) n
+    ∙ ap (where_room (length c.vectors + length (chosen_below c a)))
+    (ap (λ x. product_by x ms asks bound) i ∙ ap (λ x. product_by c.preset x asks bound) m ∙ ap (λ x. product_by c.preset (multiples c a) x bound) s ∙ ap (product_by c.preset (multiples c a) (asked c a)) b)

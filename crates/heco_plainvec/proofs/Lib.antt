@@ -10,6 +10,8 @@ pub mod Step
 pub mod Sweep
 pub mod ChosenAt
 pub mod Whole
+pub mod OneImage
+pub mod NextName
 pub mod Few
 pub mod Images
 pub mod Counts
@@ -17,6 +19,7 @@ pub mod Asked
 pub mod AskedOne
 pub mod Filled
 pub mod Outputs
+pub mod NewOutputs
 pub mod Sizes
 pub mod AskedAll
 pub mod Valid

@@ -55,7 +55,7 @@ pub length-input_parts : {A : Type 0} (xs : List A) → length (input_parts xs) 
 length-input_parts [] = refl
 length-input_parts (x ∷ xs) = ap suc (length-input_parts xs)
 
-length-fresh_bounds : {A : Type 0} (id : ℕ) (xs : List A) → length (fresh_bounds id xs) ≡ length xs
+pub length-fresh_bounds : {A : Type 0} (id : ℕ) (xs : List A) → length (fresh_bounds id xs) ≡ length xs
 length-fresh_bounds id [] = refl
 length-fresh_bounds id (x ∷ xs) = ap suc (length-fresh_bounds id xs)
 

@@ -18,7 +18,8 @@ fn put_asked(
 ) -> Result<(), Memory>
     requires { reads.now ≡ map (is_read c.now) (wires c.now) }
     ensures long { OnOk result (length asks.new.items ≡ length asks.old.items) }
-    ensures each { OnOk result ((a : ℕ) → a < length asks.old.items → slice_index_or asks.new.items a [] ≡ slice_index_or asks.old.items a [] ++ asked_by (multiples c.now a) cell) }
+    ensures each { OnOk result ((a : ℕ) → a < length asks.old.items
+        → slice_index_or asks.new.items a [] ≡ slice_index_or asks.old.items a [] ++ asked_by (multiples c.now a) cell) }
 {
     match cell {
         Cell::Slot { wire, slot } => match scaled_at(c, reads, wire) {
@@ -38,7 +39,8 @@ fn put_all_asked(
 ) -> Result<(), Memory>
     requires { reads.now ≡ map (is_read c.now) (wires c.now) }
     ensures long { OnOk result (length asks.new.items ≡ length asks.old.items) }
-    ensures each { OnOk result ((a : ℕ) → a < length asks.old.items → slice_index_or asks.new.items a [] ≡ slice_index_or asks.old.items a [] ++ flat_map (asked_by (multiples c.now a)) cells.now) }
+    ensures each { OnOk result ((a : ℕ) → a < length asks.old.items
+        → slice_index_or asks.new.items a [] ≡ slice_index_or asks.old.items a [] ++ flat_map (asked_by (multiples c.now a)) cells.now) }
 {
     let mut rest = cells;
     while let [cell, after @ ..] = rest {

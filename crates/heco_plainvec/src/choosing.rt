@@ -1,4 +1,4 @@
-ghost use Rattle.std.specs.Prelude.{◌≡◌, ◌≤◌, ◌++◌, All, [], length, map, slice_index, IfOk, OnOk};
+ghost use Rattle.std.specs.Prelude.{◌≡◌, ◌≤◌, ◌++◌, All, [], length, map, IfOk, OnOk};
 ghost use Rattle.std.specs.List.{cons_option};
 ghost use Rattle.std.specs.Option.{option_map};
 ghost use Rattle.heco_noise.specs.Rows.{IsQuiet};
@@ -79,40 +79,55 @@ fn put_vector(
     }
 }
 
-/// Each wire's product, where its multiples are replaced by one.
-pub fn choices_of(
+/// The same as below, beside the table for the weights of vectors and room for one plaintext.
+fn choices_beside(
     alloc: Global,
     c: &Circuit,
-    multiples: &[List<Multiple>],
+    table: &SlotTable,
+    room: &mut [u32],
+    groups: &[List<Multiple>],
     asks: &[List<Asked>],
     bounds: &[u128],
 ) -> Result<Choices, Memory>
-    requires multiples { multiples.now ≡ map (multiples c.now) (wires c.now) }
+    requires table { table.now.preset.id ≡ c.now.preset }
+    requires room { length room.old ≡ table.now.preset.n }
+    requires groups { groups.now ≡ map (multiples c.now) (wires c.now) }
     requires asks { asks.now ≡ map (asked c.now) (wires c.now) }
     requires bounds { bounds.now ≡ bounds_of c.now }
     ensures products { IfOk result (λ r. r.products ≡ map (product_at c.now) (wires c.now)) }
     ensures vectors { IfOk result (λ r. r.vectors ≡ gathered_vectors c.now) }
 {
     valid_circuits_are_quiet();
-    let preset = c.preset();
-    let table = SlotTable::build(alloc, preset)?;
-    let mut room = vec![in alloc; 0; preset.n as usize]?;
+    let _preset = c.preset();
     let mut vectors = copied_vectors(alloc, c.vectors().as_slice())?;
     let mut products = List::new(alloc);
     for a in 0..bounds.len() {
-        let group = multiples[a].as_slice();
+        let group = groups[a].as_slice();
         let asked = asks[a].as_slice();
-        let found = found(
-            alloc,
-            &table,
-            room.as_mut_slice(),
-            vectors.len(),
-            group,
-            asked,
-            bounds[a],
-        )?;
+        let count = vectors.len();
+        let found = found(alloc, table, room, count, group, asked, bounds[a])?;
         let product = put_vector(&mut vectors, first_wire(group), found)?;
         products.push(product)?;
     }
     Ok(Choices { products, vectors })
+}
+
+/// Each wire's product, where its multiples are replaced by one.
+pub fn choices_of(
+    alloc: Global,
+    c: &Circuit,
+    groups: &[List<Multiple>],
+    asks: &[List<Asked>],
+    bounds: &[u128],
+) -> Result<Choices, Memory>
+    requires groups { groups.now ≡ map (multiples c.now) (wires c.now) }
+    requires asks { asks.now ≡ map (asked c.now) (wires c.now) }
+    requires bounds { bounds.now ≡ bounds_of c.now }
+    ensures products { IfOk result (λ r. r.products ≡ map (product_at c.now) (wires c.now)) }
+    ensures vectors { IfOk result (λ r. r.vectors ≡ gathered_vectors c.now) }
+{
+    let preset = c.preset();
+    let table = SlotTable::build(alloc, preset)?;
+    let mut room = vec![in alloc; 0; preset.n as usize]?;
+    choices_beside(alloc, c, &table, room.as_mut_slice(), groups, asks, bounds)
 }

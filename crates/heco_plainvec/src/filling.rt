@@ -1,4 +1,4 @@
-ghost use Rattle.std.specs.Prelude.{◌≡◌, ◌≤◌, ◌<◌, ◌||◌, ◌==◌, All, IsTrue, Some, None, length, slice_index, slice_set, IfOk, if◌then◌else◌};
+ghost use Rattle.std.specs.Prelude.{◌≡◌, ◌<◌, ◌||◌, ◌==◌, All, IsTrue, Some, None, length, slice_index, slice_set, IfOk, if◌then◌else◌};
 ghost use Rattle.heco_plainvec.specs.Gathering.{agree, vector_of};
 ghost use Rattle.heco_plainvec.specs.Finding.{IsAsk};
 

@@ -22,7 +22,8 @@ pub fn empties<T: Drop>(alloc: Global, count: usize) -> Result<Vec<List<T>>, Mem
 /// Puts one more item behind those of a place, where there is such a place.
 pub fn put_at<T: Drop>(lists: &mut Vec<List<T>>, at: u32, x: T) -> Result<(), Memory>
     ensures long { OnOk result (length lists.new.items ≡ length lists.old.items) }
-    ensures each { OnOk result ((a : ℕ) → a < length lists.old.items → slice_index_or lists.new.items a [] ≡ (if at == a then slice_index_or lists.old.items a [] ++ x ∷ [] else slice_index_or lists.old.items a [])) }
+    ensures each { OnOk result ((a : ℕ) → a < length lists.old.items
+        → slice_index_or lists.new.items a [] ≡ (if at == a then slice_index_or lists.old.items a [] ++ x ∷ [] else slice_index_or lists.old.items a [])) }
 {
     if (at as usize) < lists.len() {
         lists[at as usize].push(x)?;
@@ -39,7 +40,8 @@ fn put_multiple(
 ) -> Result<(), Memory>
     requires { wire < length reads.now }
     ensures long { OnOk result (length groups.new.items ≡ length groups.old.items) }
-    ensures each { OnOk result ((a : ℕ) → a < length groups.old.items → slice_index_or groups.new.items a [] ≡ slice_index_or groups.old.items a [] ++ cons_option (multiple_where (not (slice_index_or reads.now wire false)) a wire gate) []) }
+    ensures each { OnOk result ((a : ℕ) → a < length groups.old.items
+        → slice_index_or groups.new.items a [] ≡ slice_index_or groups.old.items a [] ++ cons_option (multiple_where (not (slice_index_or reads.now wire false)) a wire gate) []) }
 {
     match scaled(reads, wire, gate) {
         Some(s) => put_at(groups, s.of, Multiple { wire, by: s.by }),

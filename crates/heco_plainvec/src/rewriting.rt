@@ -1,6 +1,5 @@
-ghost use Rattle.std.specs.Prelude.{◌≡◌, ◌≤◌, ◌+◌, ◌++◌, ◌∷◌, ◌<◌, ◌^◌, [], Some, None, length, map, slice_index_or, IfOk, OnOk};
+ghost use Rattle.std.specs.Prelude.{◌≡◌, ◌+◌, ◌++◌, ◌∷◌, ◌<◌, ◌^◌, [], Some, None, length, map, slice_index_or, IfOk, OnOk};
 ghost use Rattle.std.specs.List.{cons_option, range_with_len};
-ghost use Rattle.heco_circuit.specs.Circuits.{IsCircuit};
 ghost use Rattle.heco_rewrites.specs.Wires.{maker};
 ghost use Rattle.heco_plainvec.specs.Gathering.{is_read, wires};
 ghost use Rattle.heco_plainvec.specs.Gathered.{name, gathered_gates};
