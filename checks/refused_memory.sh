@@ -1,8 +1,8 @@
 #!/usr/bin/env bash
-# Refuses each allocation of the program in turn, one a run, in three commands: `exec` of the dot product of eight,
-# `compile` of four squarings, which is too deep, and `plain` of one line. Each run must end as it does with all memory,
-# or say `out of memory`, print nothing and leave every file as it was; where memory runs out before the words are read,
-# `main` says nothing. It is no part of the gate and takes minutes.
+# Refuses each allocation of the program in turn, one a run, in four commands: `exec` of the dot product of eight,
+# `compile` of two multiples, which are gathered, and of four squarings, which is too deep, and `plain` of one line. Each
+# run must end as it does with all memory, or say `out of memory`, print nothing and leave every file as it was; where
+# memory runs out before the words are read, `main` says nothing. It is no part of the gate and takes minutes.
 # usage: checks/refused_memory.sh [PROGRAM], where the program is that of ./heco if none is named
 set -u
 top=$(cd "$(dirname "${BASH_SOURCE[0]}")/.." && pwd) || exit 1
@@ -47,6 +47,7 @@ cc -O2 -shared -fPIC -o refuse.so refuse.c || exit 1
 
 cp "$top/examples/dot8.he" "$top/examples/dot8.in" "$top/examples/deep.he" . || exit 1
 echo 'params p8; fn f(in x, out y) { y = x; }' >line.he
+echo 'params p8; fn f(in x[2], out y[2]) { y[0] = 2*x[0]; y[1] = 3*x[1]; }' >two.he
 echo 'x = 256' >line.in
 "$heco" compile dot8.he c && "$heco" draw c 1 k e && rm c || exit 1
 
@@ -99,6 +100,7 @@ try() {
 }
 
 try exec dot8.he dot8.in k e "${made[@]}"
+try compile two.he c
 try compile deep.he c
 try plain line.he line.in
 exit "$failed"
