@@ -88,7 +88,9 @@ pub fn encrypt_poly(alloc: Global, e: &Eval, w: &EncWords, i: u32, m: &[u32]) ->
     ensures ciphertext { IfOk result (λ c. IsCiphertext e.now.preset.n c) }
     ensures count { IfOk result (λ c. length c ≡ 2) }
     ensures formula { IfOk result (λ c. (r : Row) → slice_get w.now.rows i ≡ Some r → c ≡ encrypted e.now.preset e.now.p0 e.now.p1 r.u r.e1 r.e2 m.now) }
-    ensures noise { IfOk result (λ c. (r : Row) (s : List ℤ) → slice_get w.now.rows i ≡ Some r → IsSparse e.now.preset.n e.now.preset.h s → IsPublicKey e.now.preset.n e.now.preset.b s e.now.p0 e.now.p1 → IsSparse e.now.preset.n e.now.preset.h r.u → AreErrors e.now.preset.n e.now.preset.b r.e1 → AreErrors e.now.preset.n e.now.preset.b r.e2 → noise e.now.preset s c m.now ≤ row.fresh e.now.preset.t e.now.preset.h e.now.preset.b) }
+    ensures noise { IfOk result (λ c. (r : Row) (s : List ℤ) → slice_get w.now.rows i ≡ Some r → IsSparse e.now.preset.n e.now.preset.h s
+        → IsPublicKey e.now.preset.n e.now.preset.b s e.now.p0 e.now.p1 → IsSparse e.now.preset.n e.now.preset.h r.u → AreErrors e.now.preset.n e.now.preset.b r.e1
+        → AreErrors e.now.preset.n e.now.preset.b r.e2 → noise e.now.preset s c m.now ≤ row.fresh e.now.preset.t e.now.preset.h e.now.preset.b) }
 {
     let p = e.preset();
     let mut words = Poly::zero(alloc, p)?;
@@ -110,7 +112,9 @@ pub fn encrypt(alloc: Global, e: &Eval, w: &EncWords, i: u32, slots: &[u32]) -> 
     ensures ciphertext { IfOk result (λ c. IsCiphertext e.now.preset.n c) }
     ensures count { IfOk result (λ c. length c ≡ 2) }
     ensures formula { IfOk result (λ c. (r : Row) → slice_get w.now.rows i ≡ Some r → c ≡ encrypted e.now.preset e.now.p0 e.now.p1 r.u r.e1 r.e2 (encoded e.now.preset slots.now)) }
-    ensures noise { IfOk result (λ c. (r : Row) (s : List ℤ) → slice_get w.now.rows i ≡ Some r → IsSparse e.now.preset.n e.now.preset.h s → IsPublicKey e.now.preset.n e.now.preset.b s e.now.p0 e.now.p1 → IsSparse e.now.preset.n e.now.preset.h r.u → AreErrors e.now.preset.n e.now.preset.b r.e1 → AreErrors e.now.preset.n e.now.preset.b r.e2 → noise e.now.preset s c (encoded e.now.preset slots.now) ≤ row.fresh e.now.preset.t e.now.preset.h e.now.preset.b) }
+    ensures noise { IfOk result (λ c. (r : Row) (s : List ℤ) → slice_get w.now.rows i ≡ Some r → IsSparse e.now.preset.n e.now.preset.h s
+        → IsPublicKey e.now.preset.n e.now.preset.b s e.now.p0 e.now.p1 → IsSparse e.now.preset.n e.now.preset.h r.u → AreErrors e.now.preset.n e.now.preset.b r.e1
+        → AreErrors e.now.preset.n e.now.preset.b r.e2 → noise e.now.preset s c (encoded e.now.preset slots.now) ≤ row.fresh e.now.preset.t e.now.preset.h e.now.preset.b) }
 {
     let p = e.preset();
     let table = SlotTable::build(alloc, p)?;

@@ -22,7 +22,8 @@ impl Gates {
         ensures ciphertext { IsCiphertext self.old.preset.n out.new }
         ensures count { length out.new ≡ 3 }
         ensures formula { out.new ≡ gate.multiplied self.old.preset a.now b.now }
-        ensures noise { (s : List ℤ) (m l : List ℕ) (E F : ℕ) → IsSparse self.old.preset.n self.old.preset.h s → row.IsQuiet E → row.IsQuiet F → noise self.old.preset s a.now m ≤ E → noise self.old.preset s b.now l ≤ F → noise self.old.preset s out.new (message.product self.old.preset m l) ≤ row.multiplied self.old.preset.n self.old.preset.t self.old.preset.h E F }
+        ensures noise { (s : List ℤ) (m l : List ℕ) (E F : ℕ) → IsSparse self.old.preset.n self.old.preset.h s → row.IsQuiet E → row.IsQuiet F → noise self.old.preset s a.now m ≤ E
+            → noise self.old.preset s b.now l ≤ F → noise self.old.preset s out.new (message.product self.old.preset m l) ≤ row.multiplied self.old.preset.n self.old.preset.t self.old.preset.h E F }
     {
         let _ = a.first.as_slice();
         let _ = a.second.as_slice();

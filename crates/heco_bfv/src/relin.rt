@@ -21,7 +21,8 @@ impl Gates {
         ensures ciphertext { IsCiphertext self.old.preset.n out.new }
         ensures count { length out.new ≡ 2 }
         ensures formula { out.new ≡ gate.relinearised self.old.preset k.now.rows a.now }
-        ensures noise { (s : List ℤ) (m : List ℕ) (E : ℕ) → IsSwitchKey self.old.preset.n self.old.preset.b s (square self.old.preset.n s) k.now.rows → noise self.old.preset s a.now m ≤ E → noise self.old.preset s out.new m ≤ row.turned self.old.preset.t self.old.preset.n self.old.preset.b E }
+        ensures noise { (s : List ℤ) (m : List ℕ) (E : ℕ) → IsSwitchKey self.old.preset.n self.old.preset.b s (square self.old.preset.n s) k.now.rows → noise self.old.preset s a.now m ≤ E
+            → noise self.old.preset s out.new m ≤ row.turned self.old.preset.t self.old.preset.n self.old.preset.b E }
     {
         out.first.copy_in(&a.first);
         out.second.copy_in(&a.second);

@@ -19,7 +19,8 @@ impl Gates {
         ensures ciphertext { IsCiphertext self.old.preset.n out.new }
         ensures count { length out.new ≡ length out.old }
         ensures formula { out.new ≡ gate.scaled_by self.old.preset c a.now }
-        ensures noise { (s : List ℤ) (m : List ℕ) (E : ℕ) → noise self.old.preset s a.now m ≤ E → noise self.old.preset s out.new (message.multiple self.old.preset c m) ≤ row.scaled_by self.old.preset.t c E }
+        ensures noise { (s : List ℤ) (m : List ℕ) (E : ℕ) → noise self.old.preset s a.now m ≤ E
+            → noise self.old.preset s out.new (message.multiple self.old.preset c m) ≤ row.scaled_by self.old.preset.t c E }
     {
         let factor = linear::factor(&self.preset, c);
         linear::multiple(&a.first, factor, &mut out.first);

@@ -19,7 +19,8 @@ impl Gates {
         ensures ciphertext { IsCiphertext self.old.preset.n out.new }
         ensures count { length out.new ≡ length out.old }
         ensures formula { out.new ≡ gate.shifted self.old.preset c a.now }
-        ensures noise { (s : List ℤ) (m : List ℕ) (E : ℕ) → noise self.old.preset s a.now m ≤ E → noise self.old.preset s out.new (message.raised self.old.preset c m) ≤ row.shifted self.old.preset.t E }
+        ensures noise { (s : List ℤ) (m : List ℕ) (E : ℕ) → noise self.old.preset s a.now m ≤ E
+            → noise self.old.preset s out.new (message.raised self.old.preset c m) ≤ row.shifted self.old.preset.t E }
     {
         self.constant.copy_in(&self.zero);
         self.constant.set(0, linear::raised(&self.preset, c));

@@ -19,7 +19,8 @@ impl Gates {
         ensures ciphertext { IsCiphertext self.old.preset.n out.new }
         ensures count { length out.new ≡ length out.old }
         ensures formula { out.new ≡ gate.subtracted self.old.preset a.now b.now }
-        ensures noise { (s : List ℤ) (m l : List ℕ) (E F : ℕ) → noise self.old.preset s a.now m ≤ E → noise self.old.preset s b.now l ≤ F → noise self.old.preset s out.new (message.difference self.old.preset m l) ≤ row.added E F }
+        ensures noise { (s : List ℤ) (m l : List ℕ) (E F : ℕ) → noise self.old.preset s a.now m ≤ E → noise self.old.preset s b.now l ≤ F
+            → noise self.old.preset s out.new (message.difference self.old.preset m l) ≤ row.added E F }
     {
         linear::difference(&a.first, &b.first, &mut out.first);
         linear::difference(&a.second, &b.second, &mut out.second);

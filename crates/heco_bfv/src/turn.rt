@@ -24,7 +24,8 @@ impl Gates {
         ensures ciphertext { IsCiphertext self.old.preset.n out.new }
         ensures count { length out.new ≡ 2 }
         ensures formula { out.new ≡ gate.turned self.old.preset r k.now.rows a.now }
-        ensures noise { (s : List ℤ) (m : List ℕ) (E : ℕ) → IsSwitchKey self.old.preset.n self.old.preset.b s (turned self.old.preset.n s r) k.now.rows → noise self.old.preset s a.now m ≤ E → noise self.old.preset s out.new (message.turned self.old.preset r m) ≤ row.turned self.old.preset.t self.old.preset.n self.old.preset.b E }
+        ensures noise { (s : List ℤ) (m : List ℕ) (E : ℕ) → IsSwitchKey self.old.preset.n self.old.preset.b s (turned self.old.preset.n s r) k.now.rows → noise self.old.preset s a.now m ≤ E
+            → noise self.old.preset s out.new (message.turned self.old.preset r m) ≤ row.turned self.old.preset.t self.old.preset.n self.old.preset.b E }
     {
         let g = exponent(&self.preset, r);
         Poly::turn_into(&a.first, g, &mut out.first);

@@ -24,7 +24,8 @@ impl Gates {
         ensures count { length out.new ≡ length out.old }
         ensures product { out.new ≡ gate.times_each self.old.preset (wholes m.now) a.now }
         ensures formula { (v : List ℕ) → m.now ≡ gate.weigher_words self.old.preset v → out.new ≡ gate.weighed self.old.preset v a.now }
-        ensures noise { (v : List ℕ) → m.now ≡ gate.weigher_words self.old.preset v → (s : List ℤ) (l : List ℕ) (E : ℕ) → noise self.old.preset s a.now l ≤ E → noise self.old.preset s out.new (message.weighed self.old.preset v l) ≤ row.weighed (vector_weight self.old.preset v) E }
+        ensures noise { (v : List ℕ) → m.now ≡ gate.weigher_words self.old.preset v → (s : List ℤ) (l : List ℕ) (E : ℕ) → noise self.old.preset s a.now l ≤ E
+            → noise self.old.preset s out.new (message.weighed self.old.preset v l) ≤ row.weighed (vector_weight self.old.preset v) E }
     {
         Poly::mul_into(m, &a.first, &mut out.first);
         Poly::mul_into(m, &a.second, &mut out.second);

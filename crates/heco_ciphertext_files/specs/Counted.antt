@@ -35,7 +35,8 @@ whole_counted magic body = do
 -- WrongPreset where the header is whole and of another preset; Count where the count behind it is another one; and
 -- otherwise Malformed by the first broken field
 abbrev pub HasCountedCause : {A : Type 0} → List ℕ → ℕ → ℕ → Format A → List ℕ → FileErr → Type 0
-HasCountedCause magic kept want body bytes (Malformed at) = BreaksAt (whole_counted magic body) bytes [] at × NamesNoOther magic kept bytes × CountsNoOther magic kept want bytes
+HasCountedCause magic kept want body bytes (Malformed at) = BreaksAt (whole_counted magic body) bytes [] at × NamesNoOther magic kept bytes
+    × CountsNoOther magic kept want bytes
 HasCountedCause magic kept want body bytes (WrongPreset k found) = (k ≡ kept) × (found ≢ kept) × NamesPreset magic found bytes
 HasCountedCause magic kept want body bytes (Count w found) = (w ≡ want) × (found ≢ want) × NamesCount magic kept found bytes
 HasCountedCause magic kept want body bytes Memory = Unit {0}

@@ -126,7 +126,8 @@ pub fn read_cts(
     ensures spelled { IfOk result (λ cs. AreCiphertexts p.now.n want cs.items × (bytes.now ≡ file_text (magic_of k) p.now.id cs.items)) }
     ensures only { (cs : Seq (Seq (Seq ℕ))) → AreCiphertexts p.now.n want cs → bytes.now ≡ file_text (magic_of k) p.now.id cs → Answers (λ c. c.items) result (Ok cs) }
     ensures cause { IfErr result (HasCountedCause (magic_of k) p.now.id want (ciphertexts p.now.n want) bytes.now) }
-    ensures malformed { (at : ℕ) → BreaksAt (whole_counted (magic_of k) (ciphertexts p.now.n want)) bytes.now [] at → NamesNoOther (magic_of k) p.now.id bytes.now → CountsNoOther (magic_of k) p.now.id want bytes.now → Answers (λ c. c.items) result (Err (Malformed at)) }
+    ensures malformed { (at : ℕ) → BreaksAt (whole_counted (magic_of k) (ciphertexts p.now.n want)) bytes.now [] at → NamesNoOther (magic_of k) p.now.id bytes.now
+        → CountsNoOther (magic_of k) p.now.id want bytes.now → Answers (λ c. c.items) result (Err (Malformed at)) }
     ensures wrong { (found : ℕ) → found ≢ p.now.id → NamesPreset (magic_of k) found bytes.now → Answers (λ c. c.items) result (Err (WrongPreset p.now.id found)) }
     ensures count { (found : ℕ) → found ≢ want → NamesCount (magic_of k) p.now.id found bytes.now → Answers (λ c. c.items) result (Err (Count want found)) }
 {

@@ -39,7 +39,8 @@ pub fn write_cts(alloc: Global, k: FileKind, p: &Preset, c: &[Ct]) -> Result<Byt
     requires two { All (λ x. length x ≡ 2) c.now }
     ensures text { IfOk result (λ bytes. bytes ≡ file_text (magic_of k) p.now.id c.now) }
     ensures back { let n = length c.now in n < 2 ^ 32 → AreCiphertexts p.now.n n c.now → IfOk result (λ bytes. counted_as (magic_of k) p.now.id n (ciphertexts p.now.n n) bytes ≡ Ok c.now) }
-    ensures own { let n = length c.now in (other : Seq (Seq (Seq ℕ))) → n < 2 ^ 32 → length other < 2 ^ 32 → AreCiphertexts p.now.n n c.now → AreCiphertexts p.now.n (length other) other → IfOk result (λ bytes. bytes ≡ file_text (magic_of k) p.now.id other → c.now ≡ other) }
+    ensures own { let n = length c.now in (other : Seq (Seq (Seq ℕ))) → n < 2 ^ 32 → length other < 2 ^ 32 → AreCiphertexts p.now.n n c.now → AreCiphertexts p.now.n (length other) other
+        → IfOk result (λ bytes. bytes ≡ file_text (magic_of k) p.now.id other → c.now ≡ other) }
 {
     text(alloc, k, p, c)
 }

@@ -54,7 +54,8 @@ wire_bounds id weights inputs gates = along (with_bound id weights) (fresh_bound
 abbrev pub first_passing : ℕ → List ℕ → ℕ → List ℕ → List Gate → Option (ℕ × ℕ)
 first_passing id weights number bounds [] = None
 first_passing id weights number bounds (g ∷ gates) =
-    if passes (bound_of id weights bounds g) then Some (number, bound_of id weights bounds g) else first_passing id weights (number + 1) (with_bound id weights bounds g) gates
+    if passes (bound_of id weights bounds g) then Some (number, bound_of id weights bounds g)
+    else first_passing id weights (number + 1) (with_bound id weights bounds g) gates
 
 -- the constant of a multiple is below t
 abbrev pub is_below : ℕ → Gate → Bool

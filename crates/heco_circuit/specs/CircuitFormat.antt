@@ -115,4 +115,5 @@ header_of p = record { version = version_of p.vectors p.gates; preset = p.preset
 
 -- the one spelling of a circuit
 abbrev pub circuit_text : Plan → List ℕ
-circuit_text p = versioned_text (codes "HCIR") (header_of p) ++ (inputs_text p.inputs ++ (vectors_text p.vectors ++ (gates_text p.gates ++ outputs_text p.outputs)))
+circuit_text p = versioned_text (codes "HCIR") (header_of p)
+    ++ (inputs_text p.inputs ++ (vectors_text p.vectors ++ (gates_text p.gates ++ outputs_text p.outputs)))

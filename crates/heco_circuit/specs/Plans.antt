@@ -71,10 +71,12 @@ abbrev pub are_vectors : Plan → Bool
 are_vectors p = nat_le (length p.vectors) 256 && list_all (is_vector (modulus_of p.preset) (slots_of p.preset)) p.vectors
 
 abbrev pub are_gates : Plan → Bool
-are_gates p = nat_le (length p.gates) (2 ^ 25 - 1) && all_along (is_gate (modulus_of p.preset) (slots_of p.preset) (length p.vectors)) with_gate (input_parts p.inputs) p.gates
+are_gates p = nat_le (length p.gates) (2 ^ 25 - 1)
+    && all_along (is_gate (modulus_of p.preset) (slots_of p.preset) (length p.vectors)) with_gate (input_parts p.inputs) p.gates
 
 abbrev pub are_outputs : Plan → Bool
-are_outputs p = nat_le (length p.outputs) (256 - length p.inputs) && all_along (is_output (modulus_of p.preset) (slots_of p.preset) p.inputs (wire_parts p)) push [] p.outputs
+are_outputs p = nat_le (length p.outputs) (256 - length p.inputs)
+    && all_along (is_output (modulus_of p.preset) (slots_of p.preset) p.inputs (wire_parts p)) push [] p.outputs
 
 -- names, lengths, counts and numbers, and the order, the parts and the ranges of each gate
 abbrev pub is_formed : Plan → Bool

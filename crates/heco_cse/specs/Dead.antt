@@ -41,7 +41,8 @@ pub record Marks (nodes : List VNode) (roots : List ℕ) (i : ℕ) (marks : List
   pub count : length marks ≡ length nodes
   pub sound : (j : ℕ) → slice_get marks j ≡ Some true → IsUsed vector_operands nodes roots j
   pub at_roots : (r : ℕ) → Contains roots r → slice_get marks r ≡ Some true
-  pub closed : (j o : ℕ) (n : VNode) → i ≤ j → slice_get nodes j ≡ Some n → slice_get marks j ≡ Some true → Contains (vector_operands n) o → slice_get marks o ≡ Some true
+  pub closed : (j o : ℕ) (n : VNode) → i ≤ j → slice_get nodes j ≡ Some n → slice_get marks j ≡ Some true → Contains (vector_operands n) o
+      → slice_get marks o ≡ Some true
 
 -- of the first i nodes those that are marked are copied, and ids say where each is
 pub record Copies (old : List VNode) (marks : List Bool) (i : ℕ) (new : List VNode) (ids : List NodeId) : Type 0 where

@@ -36,14 +36,18 @@ messages_result p c k material messages = results_of p (keys_of (circuit_key p c
 -- where the messages have these values, and then zeros, in either row, what decrypting the result prints of this row is the text of the circuit's meaning
 abbrev pub RowsPrintTheMeaning : Type 0
 RowsPrintTheMeaning =
-    (p : Preset) (e : ℕ) (c : Circuit) (k : KeyLists) (material : List EncRow) (messages rows : List (List ℕ)) → IsRow p e → IsProvided p c k material → length messages ≡ length c.inputs
-    → map (row_of p e) messages ≡ map (filled p.slots) rows → row_text p e c k.s (messages_result p c k material messages) ≡ output_text (map shape_of c.outputs) (meaning_of c rows)
+    (p : Preset) (e : ℕ) (c : Circuit) (k : KeyLists) (material : List EncRow) (messages rows : List (List ℕ)) → IsRow p e → IsProvided p c k material
+    → length messages ≡ length c.inputs
+    → map (row_of p e) messages ≡ map (filled p.slots) rows
+    → row_text p e c k.s (messages_result p c k material messages) ≡ output_text (map shape_of c.outputs) (meaning_of c rows)
 
 -- the encrypted messages are so many ciphertexts of two parts, and so is the result: as many as outputs have wires
 abbrev pub RunsAreRead : Type 0
 RunsAreRead =
-    (p : Preset) (c : Circuit) (k : KeyLists) (material : List EncRow) (messages : List (List ℕ)) → IsProvided p c k material → length messages ≡ length c.inputs
-    → AreCiphertexts p.n (length c.inputs) (encrypted_messages p (circuit_key p c k) material messages) × AreCiphertexts p.n (output_wire_count c) (messages_result p c k material messages)
+    (p : Preset) (c : Circuit) (k : KeyLists) (material : List EncRow) (messages : List (List ℕ)) → IsProvided p c k material
+    → length messages ≡ length c.inputs
+    → AreCiphertexts p.n (length c.inputs) (encrypted_messages p (circuit_key p c k) material messages)
+    × AreCiphertexts p.n (output_wire_count c) (messages_result p c k material messages)
 
 -- ---- for inputs
 

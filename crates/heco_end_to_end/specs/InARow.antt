@@ -19,7 +19,8 @@ use Rattle.heco_products.specs.KeyProducts.{circuit_key, evaluation_file, secret
 use Rattle.heco_products.specs.Results.{results_file}
 
 -- the keys' files are read as these keys, the file that is encrypted by them as these inputs, and the file of their run as this result
-pub record AreReadInARow (p : Preset) (c : Circuit) (k : KeyLists) (material : List EncRow) (rows : List (List ℕ)) (e : EvalLists) (s : List ℤ) (inputs results : List Ciphertext) : Type 0 where
+pub record AreReadInARow (p : Preset) (c : Circuit) (k : KeyLists) (material : List EncRow) (rows : List (List ℕ)) (e : EvalLists)
+    (s : List ℤ) (inputs results : List Ciphertext) : Type 0 where
   pub evaluation : AreEvalLists p.n p.slots e
   pub evaluation_file : evaluation_file p c k ≡ eval_text p.id e
   pub secret : IsSparse p.n p.h s
@@ -33,8 +34,10 @@ pub record AreReadInARow (p : Preset) (c : Circuit) (k : KeyLists) (material : L
 abbrev pub PrintsTheMeaningInARow : Type 0
 PrintsTheMeaningInARow =
     (p : Preset) (c : Circuit) (k : KeyLists) (material : List EncRow) (rows : List (List ℕ)) (e : EvalLists) (s : List ℤ) (inputs results : List Ciphertext)
-    → IsRunnable p c k material rows → AreReadInARow p c k material rows e s inputs results → outputs_text p c s results ≡ output_text (map shape_of c.outputs) (meaning_of c rows)
+    → IsRunnable p c k material rows → AreReadInARow p c k material rows e s inputs results
+    → outputs_text p c s results ≡ output_text (map shape_of c.outputs) (meaning_of c rows)
 
 -- what is made for a valid circuit from material within bounds is an evaluation key that can be read
 abbrev pub MadeKeysAreRead : Type 0
-MadeKeysAreRead = (p : Preset) (c : Circuit) (k : KeyLists) → p.id ≡ c.preset → IsKeyMaterial p.n p.h p.b (needed_keys c) k → AreEvalLists p.n p.slots (circuit_key p c k)
+MadeKeysAreRead = (p : Preset) (c : Circuit) (k : KeyLists) → p.id ≡ c.preset → IsKeyMaterial p.n p.h p.b (needed_keys c) k
+    → AreEvalLists p.n p.slots (circuit_key p c k)

@@ -56,7 +56,8 @@ IsNoEncryptionMaterialOf s text refusal = IsNoEncryptionMaterialIn 4 s text refu
 
 -- ---- what is given
 
--- one of the source's circuits, which is chosen; its files and its text, which is that of the source's execution too; and the agents are left where its run leads them
+-- one of the source's circuits, which is chosen; its files and its text, which is that of the source's execution too; and the
+-- agents are left where its run leads them
 pub record Executes (agents : Agents) (s : Source) (v : Values) (k : KeyLists) (material : List EncRow) (p : Product) (left : Agents) : Type 0 where
   pub circuit : Circuit
   pub of_source : IsCircuitOf s circuit

@@ -41,7 +41,8 @@ module _ (words : List (List ℕ)) where
     pub kmat : IsReadAs words file 3 (IsKeyMaterialOf source) keys
     pub emat : IsReadAs words file 4 (IsEncryptionMaterialOf source) material
 
-  -- of what was given: CIR spells a circuit of the source, which is good for it and gathered; SEC and EVA are the keys that are made for it of the key material, CTS the inputs that are
+  -- of what was given: CIR spells a circuit of the source, which is good for it and gathered; SEC and EVA are the keys that are
+  -- made for it of the key material, CTS the inputs that are
   -- encrypted by EVA and the encryption material, RES the result of the circuit's run on CTS with EVA; all other files stand; and what was printed is what
   -- decrypting RES with SEC prints, and exactly what the source's execution on the values prints
   pub record IsExecuted (file file' : Files) (printed : List ℕ) : Type 0 where

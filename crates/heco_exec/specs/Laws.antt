@@ -24,7 +24,8 @@ pub record PrintsExecuted (words : List (List ℕ)) (old new : Outside) : Type 0
 -- where the job of `exec` is done and no two of the written words have one name, the headline holds
 abbrev pub DoneIsExecuted : Type 0
 DoneIsExecuted =
-    (words : List (List ℕ)) (agents left : Agents) (old new : Outside) → AreApart words (5 ∷ 6 ∷ 7 ∷ 8 ∷ 9 ∷ []) → Done words (exec_job agents) left old new → PrintsExecuted words old new
+    (words : List (List ℕ)) (agents left : Agents) (old new : Outside) → AreApart words (5 ∷ 6 ∷ 7 ∷ 8 ∷ 9 ∷ [])
+    → Done words (exec_job agents) left old new → PrintsExecuted words old new
 
 -- which is so where the nine file words differ
 abbrev pub DistinctAreApart : Type 0
@@ -36,11 +37,13 @@ DistinctAreApart =
 -- where a source that is accepted, values of its inputs and material within bounds for it are given, no refusal is due, and all files are there
 abbrev pub GivenIsReady : Type 0
 GivenIsReady =
-    (words : List (List ℕ)) (agents : Agents) (file : Files) (source : Source) (values : Values) (keys : KeyLists) (material : List EncRow) → AreGiven words file source values keys material
+    (words : List (List ℕ)) (agents : Agents) (file : Files) (source : Source) (values : Values) (keys : KeyLists) (material : List EncRow)
+    → AreGiven words file source values keys material
     → IsClear words (exec_job agents) file × HasFiles words (exec_job agents) file
 
 -- the circuit, both keys and the encrypted inputs that it has written are files of one chain, so that `measure` prints no noise of them above its bound
 abbrev pub ExecutedFilesAreOfOneChain : Type 0
 ExecutedFilesAreOfOneChain =
     (words : List (List ℕ)) (command : List ℕ) (file file' : Files) (printed : List ℕ) (e : IsExecuted words file file' printed)
-    → HoldChainFiles (command ∷ name_of words 5 ∷ name_of words 6 ∷ name_of words 7 ∷ name_of words 8 ∷ []) file' e.circuit e.keys e.material (map (input_message (preset_of e.circuit.preset)) e.values.rows)
+    → HoldChainFiles (command ∷ name_of words 5 ∷ name_of words 6 ∷ name_of words 7 ∷ name_of words 8
+    ∷ []) file' e.circuit e.keys e.material (map (input_message (preset_of e.circuit.preset)) e.values.rows)

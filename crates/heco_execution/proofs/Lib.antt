@@ -3,6 +3,7 @@ pub mod DefinitionLemmas
 pub mod Evaluations
 pub mod ExpressionLemmas
 pub mod Following
+pub mod Likenesses
 pub mod Made
 pub mod NameLemmas
 pub mod OutcomeLemmas

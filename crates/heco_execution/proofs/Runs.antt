@@ -19,7 +19,8 @@ use Rattle.heco_execution.specs.Steps.{Step, give, then, make}
 use Rattle.heco_execution.specs.Evaluation.{Calls, as_secret, evaluate}
 use Rattle.heco_execution.specs.Execution.{Run, at_least_zero, bound, holds, within, chosen, in_order, turn, turns, zeros, kept, combined, target_index, initial, assigned, statement, run, run_all}
 use Rattle.heco_execution.proofs.Following.{AllLike, Follows, then_follows, give_follows, test_follows, counted_follows}
-use Rattle.heco_execution.proofs.Evaluations.{AreFollowed, ValueLike, StateLike, ElementLike, held_like, element_agrees, Values, Lists, States, Elements, values_last, lists_last, states_last, number_follows, as_secret_follows, secretly, operate_follows, evaluate_follows, Evaluates, in_turn_follows, CallsFollow, take_like, set_like, replicate_like, declared_like}
+use Rattle.heco_execution.proofs.Evaluations.{AreFollowed, Values, Lists, States, Elements, values_last, lists_last, states_last, number_follows, as_secret_follows, secretly, operate_follows, evaluate_follows, Evaluates, in_turn_follows, CallsFollow}
+use Rattle.heco_execution.proofs.Likenesses.{ValueLike, StateLike, ElementLike, held_like, element_agrees, take_like, set_like, replicate_like, declared_like}
 
 module _ {V W : Type 0} (R : V → W → Type 0) where
   first_like : (n : ℕ) (x : State V) (y : State W) → StateLike R x y → StateLike R (first_names n x) (first_names n y)

@@ -19,7 +19,8 @@ use Rattle.heco_syntax.specs.Ports.{length_of}
 use Rattle.heco_execution.specs.Whole.{first_row, other_rows, opened, as_secrets, with_output, outputs, execute}
 use Rattle.heco_execution.specs.Laws.{input_lengths, elements_from, elements, IsRow, AreRows, mapped, values_of, NumbersAreTheTermsValues}
 use Rattle.heco_execution.proofs.Following.{AllLike, Comes, Follows, then_follows, give_follows}
-use Rattle.heco_execution.proofs.Evaluations.{AreFollowed, ValueLike, StateLike, held_like, Values, Lists, States, values_last, lists_last, states_last, as_secret_follows, calls_follow, append_like, declared_like}
+use Rattle.heco_execution.proofs.Evaluations.{AreFollowed, Values, Lists, States, values_last, lists_last, states_last, as_secret_follows, calls_follow}
+use Rattle.heco_execution.proofs.Likenesses.{ValueLike, StateLike, held_like, append_like, declared_like}
 use Rattle.heco_execution.proofs.Runs.{zeros_follows, run_all_follows}
 use Rattle.heco_execution.proofs.TermLaws.{HasValue, Stays, terms_followed}
 

@@ -135,7 +135,8 @@ impl<'a> Cursor<'a> {
 
     /// Takes the first token of a statement, if one comes next.
     pub fn first(&mut self, alloc: Global) -> Result<Option<First>, Stop>
-        ensures { MatchResult result (λ o. MatchOption o ((spec.signed parts.first_of self.old ≡ None) × (self.new ≡ self.old)) (λ s. spec.signed parts.first_of self.old ≡ Some (s, self.new))) (λ e. e ≡ Stop.Memory) }
+        ensures { MatchResult result (λ o. MatchOption o ((spec.signed parts.first_of self.old ≡ None)
+            × (self.new ≡ self.old)) (λ s. spec.signed parts.first_of self.old ≡ Some (s, self.new))) (λ e. e ≡ Stop.Memory) }
     {
         match self.rest {
             [] => Ok(None),

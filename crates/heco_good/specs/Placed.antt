@@ -26,4 +26,5 @@ PlacedIsGood source c =
 abbrev pub ExecutesByTerms : Source → Type 0
 ExecutesByTerms source =
     (rows : List (List ℕ)) → HaveFit (modulus source) (shapes_of false source.ports) rows
-    → outputs_of source rows ≡ mapped (values_of (record { modulus = modulus source; slots = slots source; inputs = rows })) (source_terms (modulus source) source)
+    → outputs_of source rows
+    ≡ mapped (values_of (record { modulus = modulus source; slots = slots source; inputs = rows })) (source_terms (modulus source) source)

@@ -43,7 +43,8 @@ pub record IsMaterialFor (source : Source) (k : KeyLists) (material : List EncRo
   pub terms : List (List ScalarTerm)
   pub execution : source_terms (modulus source) source ≡ Ok terms
   pub keys : IsKeyMaterial (degree_of (preset_named source)) (weight_of (preset_named source)) (error_of (preset_named source)) (written_keys source terms) k
-  pub words : IsEncMaterial (degree_of (preset_named source)) (weight_of (preset_named source)) (error_of (preset_named source)) (length (input_shapes source)) material
+  pub words : IsEncMaterial (degree_of (preset_named source)) (weight_of (preset_named source)) (error_of (preset_named source))
+      (length (input_shapes source)) material
 
 -- ---- what is written and printed
 
@@ -52,7 +53,8 @@ unfoldable pub files_of : Circuit → KeyLists → List EncRow → List (List �
 files_of c k material rows =
     let p = preset_of c.preset in
     let key = circuit_key p c k in
-    circuit_text c ∷ secret_file p k ∷ evaluation_file p c k ∷ inputs_file p key material rows ∷ results_file p c key (encrypted_inputs p key material rows) ∷ []
+    circuit_text c ∷ secret_file p k ∷ evaluation_file p c k ∷ inputs_file p key material rows
+    ∷ results_file p c key (encrypted_inputs p key material rows) ∷ []
 
 -- what decrypting the result prints
 unfoldable pub text_of : Circuit → KeyLists → List EncRow → List (List ℕ) → List ℕ
@@ -61,5 +63,6 @@ text_of c k material rows = outputs_text (preset_of c.preset) c k.s (run_result 
 -- whatever good circuit was chosen can be run, and what is printed is what the source's execution on these values prints
 abbrev pub ExecPrintsThePlainText : Type 0
 ExecPrintsThePlainText =
-    (source : Source) (c : Circuit) (text : List ℕ) (v : Values) (k : KeyLists) (material : List EncRow) → Good source c → IsInput source text v → IsMaterialFor source k material
+    (source : Source) (c : Circuit) (text : List ℕ) (v : Values) (k : KeyLists) (material : List EncRow) → Good source c → IsInput source text v
+    → IsMaterialFor source k material
     → IsRunnable (preset_of c.preset) c k material v.rows × IsPlainText source v.rows (text_of c k material v.rows)

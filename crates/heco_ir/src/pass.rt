@@ -15,7 +15,8 @@ pub trait Rewrite<D: Dialect> {
         requires room { length out.old < 2 ^ 26 }
         ensures within { IfOk result (λ id. id.0 < length out.new) }
         ensures stands { OnOk result ((added : Seq D.Node) × (out.new ≡ out.old ++ added) × (length added ≤ 1)) }
-        ensures means { IfOk result (λ id. (w : World) → slice_index_or (values D.operands_of D.value w out.new) id.0 [] ≡ value_over D.operands_of D.value w (values D.operands_of D.value w out.old) n) };
+        ensures means { IfOk result (λ id. (w : World)
+            → slice_index_or (values D.operands_of D.value w out.new) id.0 [] ≡ value_over D.operands_of D.value w (values D.operands_of D.value w out.old) n) };
 }
 
 /// The node over other ids.

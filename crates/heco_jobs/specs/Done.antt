@@ -15,7 +15,8 @@ with_file name bytes file = λ other. if bytes_eq other name then Some bytes els
 module _ (words : List (List ℕ)) where
   -- the product is allowed for whatever things the files can be read as and may come of them
   unfoldable pub Owes : Job → Agents → Files → Product → Type 0
-  Owes (Read which Thing Fits Refuses next) left file p = (text : List ℕ) (x : Thing) → file (name_of words which) ≡ Some text → Fits text x → Owes (next x) left file p
+  Owes (Read which Thing Fits Refuses next) left file p = (text : List ℕ) (x : Thing) → file (name_of words which) ≡ Some text → Fits text x
+      → Owes (next x) left file p
   Owes (Judge Thing Fits Refuses next) left file p = (x : Thing) → Fits x → Owes (next x) left file p
   Owes (Give Allowed) left file p = Allowed p left
 
@@ -36,7 +37,8 @@ module _ (words : List (List ℕ)) where
   after_writes [] file = file
   after_writes (w ∷ writes) file = after_writes writes (with_file (name_of words w.which) w.bytes file)
 
-  -- exactly the files of one product were written, all others stand, and exactly its text was printed; what was read allows it, and whatever could have been read does
+  -- exactly the files of one product were written, all others stand, and exactly its text was printed; what was read allows it,
+  -- and whatever could have been read does
   pub record Done (job : Job) (left : Agents) (old new : Outside) : Type 0 where
     pub product : Product
     pub fulfilled : Fulfils job left old.file product

@@ -37,7 +37,8 @@ module _ (words : List (List ℕ)) where
       ((result ≡ Err (ReadFault which)) × (calls' ≡ calls ++ failed words (reading which) ∷ []))
       ⊎ (((result ≡ Err Memory) × ((calls' ≡ calls) ⊎ (calls' ≡ calls ++ done words (reading which) ∷ [])))
       ⊎ ((text : List ℕ) × ((file (name_of words which) ≡ Some text) ×
-      ((((x : Thing) → Fits text x → ⊥) × ((r : Refusal) × (Refuses text r × ((result ≡ Err (Refused r)) × (calls' ≡ calls ++ done words (reading which) ∷ [])))))
+      ((((x : Thing) → Fits text x → ⊥)
+      × ((r : Refusal) × (Refuses text r × ((result ≡ Err (Refused r)) × (calls' ≡ calls ++ done words (reading which) ∷ [])))))
       ⊎ ((x : Thing) × (Fits text x × Gathers (next x) left file (calls ++ done words (reading which) ∷ []) calls' result))))))
   Gathers (Judge Thing Fits Refuses next) left file calls calls' result =
       ((result ≡ Err Memory) × (calls' ≡ calls))
@@ -53,7 +54,8 @@ module _ (words : List (List ℕ)) where
 
   -- writing: the first fault stops it, earlier files hold their bytes and all others stand; then the text is printed
   unfoldable pub Writes : List Planned → Option (List ℕ) → Outside → Outside → Outcome → Type 0
-  Writes [] text old new outcome = SameFiles old.file new.file × ((new.calls ≡ old.calls) × Printed text old.taken new.taken old.shortages new.shortages outcome)
+  Writes [] text old new outcome = SameFiles old.file new.file
+      × ((new.calls ≡ old.calls) × Printed text old.taken new.taken old.shortages new.shortages outcome)
   Writes (w ∷ writes) text old new outcome =
       ((outcome ≡ WriteFault w.which) × StopsAt w old new (old.calls ++ failed words (writing w.which) ∷ []))
       ⊎ (((outcome ≡ Memory) × StopsAt w old new old.calls)

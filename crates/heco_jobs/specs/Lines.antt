@@ -11,7 +11,9 @@ use Rattle.heco_texts.specs.declared.error.InputRule.TheVariants.{InputText, Inp
 use Rattle.heco_jobs.specs.declared.outcome.Outcome.{Outcome}
 use Rattle.heco_jobs.specs.declared.outcome.Outcome.TheVariants.{Ok, Refused, ReadFault, WriteFault, Memory}
 use Rattle.heco_jobs.specs.declared.outcome.Refusal.{Refusal}
-use Rattle.heco_jobs.specs.declared.outcome.Refusal.TheVariants.{Usage, SourceLong, At, TooDeep, InputLong, InputAt, InputMissing, SecondLong, SecondAt, SecondMissing, Length, Bounds, Malformed, Noisy, WrongPreset, Count, MissingRelin, MissingKey}
+use Rattle.heco_jobs.specs.declared.outcome.Refusal.TheVariants.{Usage, SourceLong, At, TooDeep, InputLong, InputAt, InputMissing}
+use Rattle.heco_jobs.specs.declared.outcome.Refusal.TheVariants.{SecondLong, SecondAt, SecondMissing, Length, Bounds, Malformed}
+use Rattle.heco_jobs.specs.declared.outcome.Refusal.TheVariants.{Noisy, WrongPreset, Count, MissingRelin, MissingKey}
 use Rattle.heco_jobs.specs.Words.{name_of}
 
 -- these texts one after another

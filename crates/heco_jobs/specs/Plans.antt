@@ -25,7 +25,8 @@ IsOne k (n ∷ ns) = (k ≡ n) ⊎ IsOne k ns
 -- a fault names a word that the command reads or writes, or 0 where it prints, and comes only where that count rose
 abbrev pub IsCause : Plan → ℕ → ℕ → ℕ → ℕ → Outcome → Type 0
 IsCause plan faults faults' failures failures' (ReadFault k) = IsOne k plan.reads × Rose faults faults'
-IsCause plan faults faults' failures failures' (WriteFault k) = (IsOne k plan.writes × Rose faults faults') ⊎ ((k ≡ 0) × ((plan.prints ≡ true) × Rose failures failures'))
+IsCause plan faults faults' failures failures' (WriteFault k) = (IsOne k plan.writes × Rose faults faults')
+    ⊎ ((k ≡ 0) × ((plan.prints ≡ true) × Rose failures failures'))
 IsCause plan faults faults' failures failures' (Refused Usage) = ⊥
 IsCause plan faults faults' failures failures' outcome = Unit {0}
 
@@ -39,7 +40,8 @@ IsGatherCause plan before now outcome = Unit {0}
 
 -- and of the writes and the print
 abbrev pub IsFinishCause : List Planned → Option (List ℕ) → ℕ → ℕ → ℕ → ℕ → Outcome → Type 0
-IsFinishCause writes text faults faults' failures failures' (WriteFault k) = (IsOne k (map (λ w. w.which) writes) × Rose faults faults') ⊎ ((k ≡ 0) × ((is_some text ≡ true) × Rose failures failures'))
+IsFinishCause writes text faults faults' failures failures' (WriteFault k) = (IsOne k (map (λ w. w.which) writes) × Rose faults faults')
+    ⊎ ((k ≡ 0) × ((is_some text ≡ true) × Rose failures failures'))
 IsFinishCause writes text faults faults' failures failures' (ReadFault k) = ⊥
 IsFinishCause writes text faults faults' failures failures' (Refused r) = ⊥
 IsFinishCause writes text faults faults' failures failures' outcome = Unit {0}
@@ -72,6 +74,7 @@ pub record StoppedAt (words : List (List ℕ)) (step : Step) (steps : List Step)
 abbrev pub FollowsSteps : List (List ℕ) → List Step → List Call → List Call → Outcome → Type 0
 FollowsSteps words steps calls calls' Fine = calls' ≡ calls ++ map (done words) steps
 FollowsSteps words steps calls calls' (ReadFault k) = StoppedAt words (reading k) steps calls calls'
-FollowsSteps words steps calls calls' (WriteFault k) = ((k ≡ 0) × (calls' ≡ calls ++ map (done words) steps)) ⊎ ((0 < k) × StoppedAt words (writing k) steps calls calls')
+FollowsSteps words steps calls calls' (WriteFault k) = ((k ≡ 0) × (calls' ≡ calls ++ map (done words) steps))
+    ⊎ ((0 < k) × StoppedAt words (writing k) steps calls calls')
 FollowsSteps words steps calls calls' (Refused r) = Begun words steps calls calls'
 FollowsSteps words steps calls calls' Memory = Begun words steps calls calls'

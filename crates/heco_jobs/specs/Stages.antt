@@ -53,23 +53,28 @@ IsReadCause which before now outcome = Unit {0}
 module _ (words : List (List ℕ)) (which : ℕ) where
   -- at most so many of its bytes
   abbrev pub ReadsBytes : ℕ → Files → List Call → List Call → Result (List ℕ) Outcome → Type 0
-  ReadsBytes limit file calls calls' (Ok bytes) = (option_map (take limit) (file (name_of words which)) ≡ Some bytes) × (calls' ≡ calls ++ done words (reading which) ∷ [])
+  ReadsBytes limit file calls calls' (Ok bytes) = (option_map (take limit) (file (name_of words which)) ≡ Some bytes)
+      × (calls' ≡ calls ++ done words (reading which) ∷ [])
   ReadsBytes limit file calls calls' (Err (ReadFault k)) = (k ≡ which) × (calls' ≡ calls ++ failed words (reading which) ∷ [])
   ReadsBytes limit file calls calls' (Err Memory) = calls' ≡ calls
   ReadsBytes limit file calls calls' (Err outcome) = ⊥
 
   -- the thing that its bytes are read as
-  abbrev pub ReadsThing : {Thing : Type 0} → (List ℕ → Thing → Type 0) → (List ℕ → Refusal → Type 0) → Files → List Call → List Call → Result Thing Outcome → Type 0
-  ReadsThing Fits Refuses file calls calls' (Ok x) = (text : List ℕ) × ((file (name_of words which) ≡ Some text) × (Fits text x × (calls' ≡ calls ++ done words (reading which) ∷ [])))
+  abbrev pub ReadsThing : {Thing : Type 0} → (List ℕ → Thing → Type 0) → (List ℕ → Refusal → Type 0) → Files → List Call → List Call
+      → Result Thing Outcome → Type 0
+  ReadsThing Fits Refuses file calls calls' (Ok x) = (text : List ℕ)
+      × ((file (name_of words which) ≡ Some text) × (Fits text x × (calls' ≡ calls ++ done words (reading which) ∷ [])))
   ReadsThing Fits Refuses file calls calls' (Err (ReadFault k)) = (k ≡ which) × (calls' ≡ calls ++ failed words (reading which) ∷ [])
   ReadsThing {Thing} Fits Refuses file calls calls' (Err (Refused r)) =
-      (text : List ℕ) × ((file (name_of words which) ≡ Some text) × (((x : Thing) → Fits text x → ⊥) × (Refuses text r × (calls' ≡ calls ++ done words (reading which) ∷ []))))
+      (text : List ℕ) × ((file (name_of words which) ≡ Some text)
+      × (((x : Thing) → Fits text x → ⊥) × (Refuses text r × (calls' ≡ calls ++ done words (reading which) ∷ []))))
   ReadsThing Fits Refuses file calls calls' (Err Memory) = (calls' ≡ calls) ⊎ (calls' ≡ calls ++ done words (reading which) ∷ [])
   ReadsThing Fits Refuses file calls calls' (Err outcome) = ⊥
 
 module _ {S : Type 0} (s : store.Ghosts S) (words : List (List ℕ)) where
   -- all that holds of a read of this word: the count of faults, the cause of a fault, the files, what was read, and what an undisturbed store answers
-  pub record ReadWord {Thing : Type 0} (which : ℕ) (Tells : Files → List Call → List Call → Result Thing Outcome → Type 0) (old new : S) (result : Result Thing Outcome) : Type 0 where
+  pub record ReadWord {Thing : Type 0} (which : ℕ) (Tells : Files → List Call → List Call → Result Thing Outcome → Type 0)
+      (old new : S) (result : Result Thing Outcome) : Type 0 where
     pub later : s.faults old ≤ s.faults new
     pub cause : IfErr result (IsReadCause which (s.faults old) (s.faults new))
     pub files : IsTrue s.tells → SameFiles (s.file old) (s.file new)

@@ -1,7 +1,9 @@
 use Rattle.std.specs.Prelude.{ℕ}
 use Rattle.heco_jobs.specs.declared.outcome.Outcome.{Outcome}
 use Rattle.heco_jobs.specs.declared.outcome.Outcome.TheVariants.{Ok, Refused, ReadFault, WriteFault, Memory}
-use Rattle.heco_jobs.specs.declared.outcome.Refusal.TheVariants.{Usage, SourceLong, At, TooDeep, InputLong, InputAt, InputMissing, SecondLong, SecondAt, SecondMissing, Length, Bounds, Malformed, Noisy, WrongPreset, Count, MissingRelin, MissingKey}
+use Rattle.heco_jobs.specs.declared.outcome.Refusal.TheVariants.{Usage, SourceLong, At, TooDeep, InputLong, InputAt, InputMissing}
+use Rattle.heco_jobs.specs.declared.outcome.Refusal.TheVariants.{SecondLong, SecondAt, SecondMissing, Length, Bounds, Malformed}
+use Rattle.heco_jobs.specs.declared.outcome.Refusal.TheVariants.{Noisy, WrongPreset, Count, MissingRelin, MissingKey}
 
 -- the exit status of an outcome
 abbrev pub status_of : Outcome → ℕ

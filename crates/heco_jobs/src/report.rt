@@ -1,7 +1,8 @@
 ghost use Rattle.std.specs.Prelude.{◌≡◌, IsTrue, codes};
 ghost use Rattle.heco_outside.specs.Calls.{Wrote};
 ghost use Rattle.heco_outside.specs.Causes.{SinkCause};
-ghost use Rattle.heco_jobs.specs.Lines.{line_of, refusal_line, Reports, rule_name, place_line, input_name, input_rule, long_line, input_line, missing_line, offset_line, noisy_line, deep_line, evaluation_name, relin_line, key_line, other_line, read_line, write_line};
+ghost use Rattle.heco_jobs.specs.Lines.{line_of, refusal_line, Reports, rule_name, place_line, input_name, input_rule, long_line, input_line, missing_line, offset_line};
+ghost use Rattle.heco_jobs.specs.Lines.{noisy_line, deep_line, evaluation_name, relin_line, key_line, other_line, read_line, write_line};
 ghost use Rattle.heco_jobs.specs.Words.{texts};
 
 use crate::words::name_of;

@@ -46,7 +46,8 @@ pub fn read_eval(alloc: Global, p: &Preset, bytes: &[u8]) -> Result<Eval, FileEr
     ensures spelled { IfOk result (λ e. AreEvalLists p.now.n p.now.slots (lists_of e) × (bytes.now ≡ eval_text p.now.id (lists_of e))) }
     ensures only { (e : EvalLists) → AreEvalLists p.now.n p.now.slots e → bytes.now ≡ eval_text p.now.id e → Answers lists_of result (Ok e) }
     ensures cause { IfErr result (HasCause (codes "HEVA") p.now.id (evaluation p.now.n p.now.slots) bytes.now) }
-    ensures malformed { (at : ℕ) → BreaksAt (whole (codes "HEVA") (evaluation p.now.n p.now.slots)) bytes.now [] at → NamesNoOther (codes "HEVA") p.now.id bytes.now → Answers lists_of result (Err (Malformed at)) }
+    ensures malformed { (at : ℕ) → BreaksAt (whole (codes "HEVA") (evaluation p.now.n p.now.slots)) bytes.now [] at → NamesNoOther (codes "HEVA") p.now.id bytes.now
+        → Answers lists_of result (Err (Malformed at)) }
     ensures wrong { (found : ℕ) → found ≢ p.now.id → NamesPreset (codes "HEVA") found bytes.now → Answers lists_of result (Err (WrongPreset p.now.id found)) }
 {
     file(alloc, p, bytes)

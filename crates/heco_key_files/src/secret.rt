@@ -61,7 +61,8 @@ pub fn read_secret(alloc: Global, p: &Preset, bytes: &[u8]) -> Result<Secret, Fi
     ensures spelled { IfOk result (λ s. IsSparse p.now.n p.now.h s.places × (bytes.now ≡ secret_text p.now.id s.places)) }
     ensures only { (s : Seq ℤ) → IsSparse p.now.n p.now.h s → bytes.now ≡ secret_text p.now.id s → Answers (λ k. k.places) result (Ok s) }
     ensures cause { IfErr result (HasCause (codes "HSEC") p.now.id (sparse p.now.n p.now.h) bytes.now) }
-    ensures malformed { (at : ℕ) → BreaksAt (whole (codes "HSEC") (sparse p.now.n p.now.h)) bytes.now [] at → NamesNoOther (codes "HSEC") p.now.id bytes.now → Answers (λ k. k.places) result (Err (Malformed at)) }
+    ensures malformed { (at : ℕ) → BreaksAt (whole (codes "HSEC") (sparse p.now.n p.now.h)) bytes.now [] at → NamesNoOther (codes "HSEC") p.now.id bytes.now
+        → Answers (λ k. k.places) result (Err (Malformed at)) }
     ensures wrong { (found : ℕ) → found ≢ p.now.id → NamesPreset (codes "HSEC") found bytes.now → Answers (λ k. k.places) result (Err (WrongPreset p.now.id found)) }
 {
     key(alloc, p, bytes)

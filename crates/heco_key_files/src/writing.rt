@@ -87,7 +87,8 @@ fn put_needs(out: &mut Bytes, e: &Eval) -> Result<(), Memory>
 pub fn write_eval(alloc: Global, e: &Eval) -> Result<Bytes, Memory>
     ensures text { IfOk result (λ bytes. bytes ≡ eval_text e.now.preset.id (lists_of e.now)) }
     ensures back { let p = e.now.preset in AreEvalLists p.n p.slots (lists_of e.now) → IfOk result (λ bytes. file_as (codes "HEVA") p.id (evaluation p.n p.slots) bytes ≡ Ok (lists_of e.now)) }
-    ensures own { let p = e.now.preset in (other : EvalLists) → AreEvalLists p.n p.slots (lists_of e.now) → AreEvalLists p.n p.slots other → IfOk result (λ bytes. bytes ≡ eval_text p.id other → lists_of e.now ≡ other) }
+    ensures own { let p = e.now.preset in (other : EvalLists) → AreEvalLists p.n p.slots (lists_of e.now) → AreEvalLists p.n p.slots other
+        → IfOk result (λ bytes. bytes ≡ eval_text p.id other → lists_of e.now ≡ other) }
 {
     text(alloc, e)
 }

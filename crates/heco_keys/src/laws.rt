@@ -12,7 +12,8 @@ ghost use Rattle.heco_keys.specs.Made.{all_rows, purpose, source_of};
 pub fn made_keys_are_keys()
     ensures public { (n b : ℕ) (s e : List ℤ) (a : List ℕ) → AreErrors n b e → IsPublicKey n b s (key_part n s a e) a }
     ensures rows { (n : ℕ) (s : List ℤ) (relin : Bool) (turns : List ℕ) (switch : List SwitchWords) (b : ℕ) → All (IsSwitch n b) switch → All (AreRows n) (all_rows n s relin turns switch) }
-    ensures switch { (n : ℕ) (s : List ℤ) (relin : Bool) (turns : List ℕ) (switch : List SwitchWords) (b j : ℕ) → All (IsSwitch n b) switch → j < length switch → IsSwitchKey n b s (source_of n s (purpose relin turns j)) (slice_index_or (all_rows n s relin turns switch) j []) }
+    ensures switch { (n : ℕ) (s : List ℤ) (relin : Bool) (turns : List ℕ) (switch : List SwitchWords) (b j : ℕ) → All (IsSwitch n b) switch → j < length switch
+        → IsSwitchKey n b s (source_of n s (purpose relin turns j)) (slice_index_or (all_rows n s relin turns switch) j []) }
     ensures relin { (n : ℕ) (s : List ℤ) (turns : List ℕ) → source_of n s (purpose true turns 0) ≡ square n s }
     ensures turn { (n : ℕ) (s : List ℤ) (relin : Bool) (turns : List ℕ) (j : ℕ) → source_of n s (purpose relin turns ((if relin then 1 else 0) + j)) ≡ turned n s (slice_index turns j) }
 {}

@@ -28,7 +28,8 @@ pub data Splits : ℕ → List ℕ → List Token → Type 0 where
   nothing : {at : ℕ} → Splits at [] []
   blank : {at c : ℕ} {cs : List ℕ} {ts : List Token} → is_blank c ≡ true → Splits (at + 1) cs ts → Splits at (c ∷ cs) ts
   comment : {at : ℕ} {cs : List ℕ} {ts : List Token} → begins_comment cs ≡ true → Splits (at + line_rest cs) (drop (line_rest cs) cs) ts → Splits at cs ts
-  token : {at n : ℕ} {cs : List ℕ} {ts : List Token} {kind : TokenKind} → IsLongest cs n kind → Splits (at + n) (drop n cs) ts → Splits at cs (token_at at n kind ∷ ts)
+  token : {at n : ℕ} {cs : List ℕ} {ts : List Token} {kind : TokenKind} → IsLongest cs n kind → Splits (at + n) (drop n cs) ts
+      → Splits at cs (token_at at n kind ∷ ts)
 
 -- a byte that is no blank stands here, and neither a comment nor a token begins with it
 pub record IsBad (text : List ℕ) : Type 0 where

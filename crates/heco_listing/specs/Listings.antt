@@ -67,4 +67,5 @@ abbrev pub output_line : Output → List ℕ
 output_line o = codes "out " ++ port o.name (length o.cells) ++ codes " =" ++ flat_map cell_words o.cells ++ codes "\n"
 
 unfoldable pub listing_of : Plan → List ℕ
-listing_of p = preset_line p.preset ++ flat_map input_line p.inputs ++ vector_lines 0 p.vectors ++ gate_lines (wire_bounds p.preset (weights_of p.preset p.vectors) p.inputs p.gates) (length p.inputs) p.gates ++ flat_map output_line p.outputs
+listing_of p = preset_line p.preset ++ flat_map input_line p.inputs ++ vector_lines 0 p.vectors
+    ++ gate_lines (wire_bounds p.preset (weights_of p.preset p.vectors) p.inputs p.gates) (length p.inputs) p.gates ++ flat_map output_line p.outputs

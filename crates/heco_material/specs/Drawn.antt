@@ -21,7 +21,8 @@ unfoldable pub drawn_switches : ChaCha → ℕ → ℕ → ℕ → List SwitchWo
 drawn_switches g n b count = listed count (λ j. drawn_switch (ahead g (87 * n * j)) n b)
 
 unfoldable pub drawn_keys : ChaCha → ℕ → ℕ → ℕ → ℕ → KeyLists
-drawn_keys g n h b count = key_lists (sparse g n h) (long_words (ahead g h) n) (errors (ahead g (h + 2 * n)) n b) (drawn_switches (ahead g (h + 3 * n)) n b count)
+drawn_keys g n h b count =
+    key_lists (sparse g n h) (long_words (ahead g h) n) (errors (ahead g (h + 2 * n)) n b) (drawn_switches (ahead g (h + 3 * n)) n b count)
 
 -- h words and two errors: h + 2 n words
 unfoldable pub drawn_encryption : ChaCha → ℕ → ℕ → ℕ → EncRow

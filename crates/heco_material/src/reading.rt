@@ -73,7 +73,8 @@ pub fn read_keys(
     ensures only { (k : KeyLists) → IsKeyMaterial p.now.n p.now.h p.now.b (key_count needs.now) k → bytes.now ≡ keys_text k → Answers lists_of result (Ok k) }
     ensures cause { IfErr result (HasCause (keys p.now.n p.now.h p.now.b (key_count needs.now)) (keys_length p.now.n (key_count needs.now)) bytes.now) }
     ensures long { length bytes.now ≢ keys_length p.now.n (key_count needs.now) → Answers lists_of result (Err (Length (min (length bytes.now) (keys_length p.now.n (key_count needs.now))))) }
-    ensures bounds { (at : ℕ) → length bytes.now ≡ keys_length p.now.n (key_count needs.now) → BreaksAt (keys p.now.n p.now.h p.now.b (key_count needs.now)) bytes.now [] at → Answers lists_of result (Err (Bounds at)) }
+    ensures bounds { (at : ℕ) → length bytes.now ≡ keys_length p.now.n (key_count needs.now) → BreaksAt (keys p.now.n p.now.h p.now.b (key_count needs.now)) bytes.now [] at
+        → Answers lists_of result (Err (Bounds at)) }
 {
     read_words(alloc, p, needs, bytes)
 }
@@ -126,7 +127,8 @@ pub fn read_enc(alloc: Global, p: &Preset, count: u32, bytes: &[u8]) -> Result<E
     ensures only { (rows : Seq EncRow) → IsEncMaterial p.now.n p.now.h p.now.b count rows → bytes.now ≡ encryptions_text rows → Answers (λ w. w.rows) result (Ok rows) }
     ensures cause { IfErr result (HasCause (encryptions p.now.n p.now.h p.now.b count) (encryptions_length p.now.n count) bytes.now) }
     ensures long { length bytes.now ≢ encryptions_length p.now.n count → Answers (λ w. w.rows) result (Err (Length (min (length bytes.now) (encryptions_length p.now.n count)))) }
-    ensures bounds { (at : ℕ) → length bytes.now ≡ encryptions_length p.now.n count → BreaksAt (encryptions p.now.n p.now.h p.now.b count) bytes.now [] at → Answers (λ w. w.rows) result (Err (Bounds at)) }
+    ensures bounds { (at : ℕ) → length bytes.now ≡ encryptions_length p.now.n count → BreaksAt (encryptions p.now.n p.now.h p.now.b count) bytes.now [] at
+        → Answers (λ w. w.rows) result (Err (Bounds at)) }
 {
     read_enc_words(alloc, p, count, bytes)
 }

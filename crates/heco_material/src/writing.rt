@@ -42,8 +42,10 @@ fn put_switches(out: &mut Bytes, switches: &[SwitchWords]) -> Result<(), Memory>
 /// other material has this file.
 pub fn write_keys(alloc: Global, k: &KeyWords) -> Result<Bytes, Memory>
     ensures text { IfOk result (λ bytes. bytes ≡ keys_text (lists_of k.now)) }
-    ensures back { let p = k.now.preset in (count : ℕ) → IsKeyMaterial p.n p.h p.b count (lists_of k.now) → IfOk result (λ bytes. read_as (keys p.n p.h p.b count) (keys_length p.n count) bytes ≡ Ok (lists_of k.now)) }
-    ensures own { let p = k.now.preset in (count : ℕ) (other : KeyLists) → IsKeyMaterial p.n p.h p.b count (lists_of k.now) → IsKeyMaterial p.n p.h p.b count other → IfOk result (λ bytes. bytes ≡ keys_text other → lists_of k.now ≡ other) }
+    ensures back { let p = k.now.preset in (count : ℕ) → IsKeyMaterial p.n p.h p.b count (lists_of k.now)
+        → IfOk result (λ bytes. read_as (keys p.n p.h p.b count) (keys_length p.n count) bytes ≡ Ok (lists_of k.now)) }
+    ensures own { let p = k.now.preset in (count : ℕ) (other : KeyLists) → IsKeyMaterial p.n p.h p.b count (lists_of k.now) → IsKeyMaterial p.n p.h p.b count other
+        → IfOk result (λ bytes. bytes ≡ keys_text other → lists_of k.now ≡ other) }
 {
     key_file(alloc, k)
 }
@@ -82,8 +84,10 @@ fn enc_file(alloc: Global, w: &EncWords) -> Result<Bytes, Memory>
 /// no other material has this file.
 pub fn write_enc(alloc: Global, w: &EncWords) -> Result<Bytes, Memory>
     ensures text { IfOk result (λ bytes. bytes ≡ encryptions_text w.now.rows) }
-    ensures back { let p = w.now.preset in (count : ℕ) → IsEncMaterial p.n p.h p.b count w.now.rows → IfOk result (λ bytes. read_as (encryptions p.n p.h p.b count) (encryptions_length p.n count) bytes ≡ Ok w.now.rows) }
-    ensures own { let p = w.now.preset in (count : ℕ) (other : Seq EncRow) → IsEncMaterial p.n p.h p.b count w.now.rows → IsEncMaterial p.n p.h p.b count other → IfOk result (λ bytes. bytes ≡ encryptions_text other → w.now.rows ≡ other) }
+    ensures back { let p = w.now.preset in (count : ℕ) → IsEncMaterial p.n p.h p.b count w.now.rows
+        → IfOk result (λ bytes. read_as (encryptions p.n p.h p.b count) (encryptions_length p.n count) bytes ≡ Ok w.now.rows) }
+    ensures own { let p = w.now.preset in (count : ℕ) (other : Seq EncRow) → IsEncMaterial p.n p.h p.b count w.now.rows → IsEncMaterial p.n p.h p.b count other
+        → IfOk result (λ bytes. bytes ≡ encryptions_text other → w.now.rows ≡ other) }
 {
     enc_file(alloc, w)
 }

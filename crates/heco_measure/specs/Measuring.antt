@@ -17,7 +17,11 @@ measured_of p s at messages bounds w = record { wire = w; noise = noise p s (at 
 
 -- of a wire of the run on these inputs
 abbrev pub measured_wire : Preset → List ℤ → SwitchKeys → Plan → List Ciphertext → ℕ → Measured
-measured_wire p s keys c inputs w = record { wire = w; noise = measured_noise p s keys c inputs w; bound = slice_index (wire_bounds c.preset (weights_of c.preset c.vectors) c.inputs c.gates) w }
+measured_wire p s keys c inputs w = record {
+  wire = w;
+  noise = measured_noise p s keys c inputs w;
+  bound = slice_index (wire_bounds c.preset (weights_of c.preset c.vectors) c.inputs c.gates) w;
+}
 
 -- of all its wires, by rising number
 unfoldable pub measured_wires : Preset → List ℤ → SwitchKeys → Plan → List Ciphertext → List Measured

@@ -34,7 +34,8 @@ module _ (words : List (List ℕ)) where
     pub kmat : IsReadAs words file 4 (IsKeyMaterialOf source) keys
     pub emat : IsReadAs words file 5 (IsEncryptionMaterialOf source) material
 
-  -- of what was given: CIR spells a circuit of the source, which is good for it and gathered; SEC and EVA are the keys that are made for it of the key material, CTS the inputs that are
+  -- of what was given: CIR spells a circuit of the source, which is good for it and gathered; SEC and EVA are the keys that are
+  -- made for it of the key material, CTS the inputs that are
   -- encrypted by EVA and the encryption material, the values of IN in the first row and those of IN2 in the second, RES the result of the circuit's run on
   -- CTS with EVA; all other files stand; and of both texts that were printed the first is what decrypting RES with SEC prints of the first row, and exactly
   -- what the source's execution on the values of IN prints, and the second is the same of the second row and of IN2

@@ -57,5 +57,7 @@ CallsPrintApart =
 -- the circuit, both keys and the encrypted inputs that it has written are files of one chain, so that `measure` prints no noise of them above its bound
 abbrev pub PairedFilesAreOfOneChain : Type 0
 PairedFilesAreOfOneChain =
-    (words : List (List ℕ)) (command : List ℕ) (file file' : Files) (first_printed second_printed : List ℕ) (e : IsPaired words file file' first_printed second_printed)
-    → HoldChainFiles (command ∷ name_of words 6 ∷ name_of words 7 ∷ name_of words 8 ∷ name_of words 9 ∷ []) file' e.circuit e.keys e.material (two_row_messages (preset_of e.circuit.preset) e.first.rows e.second.rows)
+    (words : List (List ℕ)) (command : List ℕ) (file file' : Files)
+    (first_printed second_printed : List ℕ) (e : IsPaired words file file' first_printed second_printed)
+    → HoldChainFiles (command ∷ name_of words 6 ∷ name_of words 7 ∷ name_of words 8 ∷ name_of words 9
+    ∷ []) file' e.circuit e.keys e.material (two_row_messages (preset_of e.circuit.preset) e.first.rows e.second.rows)

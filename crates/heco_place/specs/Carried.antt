@@ -50,4 +50,5 @@ pub record Gives (id : ℕ) (inputs : List Shape) (gates : List Gate) (gate : Ga
   pub valid : is_gate (modulus_of id) (slots_of id) 0 (all_parts inputs gates) gate ≡ true
   pub parts_are : parts_of (all_parts inputs gates) gate ≡ parts_where long
   pub bound_within : bound_of id [] (all_bounds id inputs gates) gate + share (scheme_of id) long ≤ bound (scheme_of id) v
-  pub slots_are : (rows : List (List ℕ)) → AreRows id inputs rows → wire_of (modulus_of id) [] (all_slots id rows gates) gate ≡ vector_slots (world_of id rows) v
+  pub slots_are : (rows : List (List ℕ)) → AreRows id inputs rows
+      → wire_of (modulus_of id) [] (all_slots id rows gates) gate ≡ vector_slots (world_of id rows) v

@@ -46,7 +46,8 @@ pub record IsPlan (id most : ℕ) (inputs : List Shape) (ns : List VNode) (late 
   pub late_is : late ≡ true → (k : ℕ) → k < length ns → due_at dues k ≡ is_due ts vs (term_at ts k)
 
 -- The gates are valid and low, the carriers carry the first terms, and the gates are those of these terms.
-pub record Placing (id most : ℕ) (inputs : List Shape) (late : Bool) (dues : List Bool) (ts vs : List VectorTerm) (i : ℕ) (gates : List Gate) (carriers : List Carrier) : Type 0 where
+pub record Placing (id most : ℕ) (inputs : List Shape) (late : Bool) (dues : List Bool)
+    (ts vs : List VectorTerm) (i : ℕ) (gates : List Gate) (carriers : List Carrier) : Type 0 where
   pub valid : all_along (is_gate (modulus_of id) (slots_of id) 0) with_gate (input_parts inputs) gates ≡ true
   pub low : all_along (is_low id most) (with_bound id []) (fresh_bounds id inputs) gates ≡ true
   pub count : length carriers ≡ i

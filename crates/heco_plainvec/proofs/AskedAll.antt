@@ -1,8 +1,8 @@
 -- What the output cells of a valid circuit ask: slots that there are, and constants of multiples.
-use Rattle.std.proofs.Common.{◌≡◌, ◌∙◌, refl, sym, ap, ℕ, zero, suc, ◌+◌, ◌-◌, ◌<◌, ◌≤◌, List, [], ◌∷◌, map, length, arith, Bool, true, false, ◌&&◌, eqb, leb, cond, subst, get_or}
-use Rattle.std.specs.Prelude.{All, Option, Some, None, slice_get, slice_index, flat_map, filter_map}
+use Rattle.std.proofs.Common.{◌≡◌, refl, ap, ℕ, zero, suc, ◌-◌, ◌<◌, ◌≤◌, List, [], ◌∷◌, map, length, arith, Bool, true, false, eqb, leb, cond, subst}
+use Rattle.std.specs.Prelude.{All, Some, None, slice_get}
 use Rattle.std.specs.List.{list_all, range_with_len}
-use Rattle.std.proofs.lemmas.Bool.{eqb-true, eq-eqb, le-leb, leb-true}
+use Rattle.std.proofs.lemmas.Bool.{eq-eqb, le-leb, leb-true}
 use Rattle.std.proofs.lemmas.Bool.Decides.{nat_tests}
 use Rattle.std.proofs.lemmas.List.FromFn.{length-map-range_with_len}
 use Rattle.heco_nums.specs.Presets.{modulus_of, slots_of}

@@ -1,12 +1,11 @@
 -- Which wires are chosen, wire by wire.
-use Rattle.std.proofs.Common.{◌≡◌, ℕ, zero, suc, ◌+◌, ◌-◌, ◌<◌, ◌≤◌, min, List, [], ◌∷◌, ◌++◌, length, map, take, refl, ap, sym, ◌∙◌, arith, Bool, true, false, ◌&&◌, ◌||◌, not, cond, eqb, ltb, leb, inl, inr, length-append}
+use Rattle.std.proofs.Common.{◌≡◌, ℕ, zero, suc, ◌+◌, ◌-◌, ◌<◌, ◌≤◌, List, [], ◌∷◌, ◌++◌, length, map, take, refl, ap, sym, ◌∙◌, arith, Bool, true, false, ◌&&◌, ◌||◌, not, cond, eqb, ltb, inl, inr, length-append}
 use Rattle.std.specs.Prelude.{Option, Some, None, filter}
 use Rattle.std.specs.List.{range_with_len, position_or_len, cons_option}
 use Rattle.std.specs.Option.{option_map}
-use Rattle.std.proofs.lemmas.Bool.{eqb-true, eq-eqb, ne_eqb, ltb-true, ltb-false, lt-ltb, le-ltb, cases_lt}
+use Rattle.std.proofs.lemmas.Bool.{eq-eqb, ne_eqb, ltb-true, lt-ltb, le-ltb, cases_lt}
 use Rattle.std.proofs.lemmas.List.{length-take, length-map, map-append}
 use Rattle.std.proofs.lemmas.List.Elements.{filter-append}
-use Rattle.heco_noise.specs.Rows.{passes}
 use Rattle.heco_thrift.specs.Thrift.{bounds_of}
 use Rattle.std.specs.Prelude.{slice_index}
 use Rattle.heco_fields.specs.Runs.{along}
@@ -16,8 +15,7 @@ use Rattle.heco_circuit.specs.Plans.{Plan}
 use Rattle.heco_rewrites.specs.Needed.{has}
 use Rattle.heco_plainvec.specs.declared.multiple.Asked.{Asked}
 use Rattle.heco_plainvec.specs.declared.multiple.Multiple.{Multiple}
-use Rattle.heco_plainvec.specs.declared.multiple.Product.{Product}
-use Rattle.heco_plainvec.specs.Gathering.{multiples, asked, agree, vector, weighed_bound, serves, wires, chosen, most_vectors}
+use Rattle.heco_plainvec.specs.Gathering.{multiples, asked, vector, serves, chosen, most_vectors}
 use Rattle.heco_plainvec.specs.Gathered.{first_multiple, vector_number}
 use Rattle.heco_plainvec.specs.Finding.{product_by, where_room, numbered_product, product_at}
 use Rattle.heco_plainvec.proofs.Leaders.{chosen_serves}

@@ -1,7 +1,7 @@
 -- What a gathered circuit needs and costs.
-use Rattle.std.proofs.Common.{◌≡◌, ℕ, ◌+◌, ◌-◌, ◌<◌, ◌≤◌, List, [], ◌∷◌, length, map, refl, ap, sym, ◌∙◌, arith, Bool, true, false, cond, inl, inr, subst}
-use Rattle.std.specs.Prelude.{Option, Some, None, slice_get, filter_map, filter}
-use Rattle.std.specs.List.{list_any, enumerate_from, sum_by, count_by, range_with_len}
+use Rattle.std.proofs.Common.{◌≡◌, ℕ, ◌+◌, ◌-◌, ◌≤◌, length, refl, ap, sym, ◌∙◌, arith, Bool, false, cond, inl, inr}
+use Rattle.std.specs.Prelude.{Some, None, slice_get}
+use Rattle.std.specs.List.{list_any, count_by, range_with_len}
 use Rattle.std.proofs.lemmas.List.Elements.{filter_agree}
 use Rattle.heco_nums.specs.Presets.{slots_of}
 use Rattle.heco_circuit.specs.declared.gate.Gate.{Gate}
@@ -11,7 +11,7 @@ use Rattle.heco_circuit.specs.Needs.{is_relin, turns_by, needs_relin, needed_tur
 use Rattle.heco_thrift.specs.Thrift.{is_product}
 use Rattle.heco_rewrites.specs.Wires.{over}
 use Rattle.heco_plainvec.specs.Gathered.{name, gathered_gate, gathered_gates, gathered}
-use Rattle.heco_plainvec.proofs.Images.{IsKept, IsWeighed, image_is, gone_is, same_any, same_by, less_by, length-sum}
+use Rattle.heco_plainvec.proofs.Images.{image_is, gone_is, same_any, same_by, less_by, length-sum}
 
 -- a test that sees neither wires nor products by constants and vectors
 pub record IsBlind (test : Gate → Bool) : Type 0 where

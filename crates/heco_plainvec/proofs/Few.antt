@@ -1,5 +1,5 @@
 -- How many wires and vectors a valid circuit may have.
-use Rattle.std.proofs.Common.{◌≡◌, ℕ, ◌+◌, ◌-◌, ◌^◌, ◌<◌, ◌≤◌, [], length, arith, true, leb}
+use Rattle.std.proofs.Common.{◌+◌, ◌-◌, ◌^◌, ◌<◌, ◌≤◌, [], length, arith, leb}
 use Rattle.std.proofs.lemmas.Bool.{leb-true}
 use Rattle.heco_nums.specs.Presets.{slots_of}
 use Rattle.heco_fields.specs.Runs.{all_along}

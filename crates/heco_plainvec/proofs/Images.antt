@@ -1,7 +1,7 @@
 -- What each gate of a circuit is in the gathered one, and what is counted of both.
-use Rattle.std.proofs.Common.{◌≡◌, ℕ, zero, suc, ◌+◌, ◌<◌, ◌≤◌, List, [], ◌∷◌, length, map, refl, ap, sym, ◌∙◌, arith, Bool, true, false, ◌||◌, cond, eqb, subst, inl, inr, ◌⊎◌}
+use Rattle.std.proofs.Common.{◌≡◌, ℕ, suc, ◌+◌, ◌≤◌, List, [], ◌∷◌, length, refl, ap, sym, ◌∙◌, arith, Bool, true, false, ◌||◌, cond, inl, inr, ◌⊎◌}
 use Rattle.std.specs.Prelude.{Option, Some, None, slice_get, filter_map}
-use Rattle.std.specs.List.{list_any, enumerate_from, cons_option, sum_by, count_by}
+use Rattle.std.specs.List.{list_any, enumerate_from, cons_option, sum_by}
 use Rattle.std.proofs.lemmas.Bool.{eqb-true}
 use Rattle.std.proofs.lemmas.List.Sums.{sum_by-cons}
 use Rattle.heco_circuit.specs.declared.gate.Gate.{Gate}

@@ -1,5 +1,5 @@
 -- What is known of one wire, as one value, and of a gate's.
-use Rattle.std.proofs.Common.{◌≡◌, ℕ, ◌+◌, ◌<◌, ◌≤◌, List, [], ◌∷◌, length, refl, ap, sym, ◌∙◌, arith, get_or, true}
+use Rattle.std.proofs.Common.{◌≡◌, ℕ, ◌<◌, List, [], ◌∷◌, length, refl, ap, ◌∙◌, arith, true}
 use Rattle.std.specs.Prelude.{slice_index, Contains}
 use Rattle.std.proofs.lemmas.List.{get_or_append_left, get_or_push}
 use Rattle.heco_nums.specs.Presets.{modulus_of, slots_of}
@@ -8,7 +8,7 @@ use Rattle.heco_circuit.specs.declared.gate.Gate.{Gate}
 use Rattle.heco_circuit.specs.Validity.{parts_of, is_gate}
 use Rattle.heco_circuit.specs.Bounds.{bound_of, weights_of}
 use Rattle.heco_meaning.specs.Meanings.{wire_at, wire_of}
-use Rattle.heco_rewrites.specs.Wires.{Wires, behind, operands, over, StandsFor, OperandsStand, Even, Keeps}
+use Rattle.heco_rewrites.specs.Wires.{Wires, behind, operands, over, OperandsStand, Even, Keeps}
 use Rattle.heco_rewrites.proofs.OtherNames.{over_parts, over_bound_same, over_slots}
 use Rattle.heco_rewrites.proofs.Named.{longer, even_more}
 

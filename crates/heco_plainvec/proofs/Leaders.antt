@@ -1,20 +1,20 @@
 -- The multiples of a wire, which of them go, and in whose place.
-use Rattle.std.proofs.Common.{◌≡◌, ℕ, zero, suc, ◌+◌, ◌-◌, ◌<◌, ◌≤◌, List, [], ◌∷◌, ◌++◌, length, map, refl, ap, sym, ◌∙◌, arith, Bool, true, false, ◌&&◌, ◌||◌, not, cond, ltb, leb, eqb, subst, take}
+use Rattle.std.proofs.Common.{◌≡◌, ℕ, zero, suc, ◌+◌, ◌-◌, ◌<◌, ◌≤◌, List, [], ◌∷◌, length, map, refl, ap, sym, ◌∙◌, arith, Bool, true, false, ◌&&◌, ◌||◌, not, cond, leb, eqb, subst, take}
 use Rattle.std.specs.Prelude.{Option, Some, None, slice_get, slice_index, Contains, filter}
-use Rattle.std.specs.List.{list_any, range_with_len}
+use Rattle.std.specs.List.{list_any}
 use Rattle.std.proofs.lemmas.Bool.{eqb-true, eq-eqb, leb-true}
-use Rattle.heco_fields.proofs.Bools.{both_true, and_true}
+use Rattle.heco_fields.proofs.Bools.{both_true}
 use Rattle.heco_circuit.specs.declared.gate.Gate.{Gate}
-use Rattle.heco_circuit.specs.declared.gate.Gate.TheVariants.{Neg, Add, Sub, Mul, Relin, Scale, Shift, Turn, Weigh}
+use Rattle.heco_circuit.specs.declared.gate.Gate.TheVariants.{Scale}
 use Rattle.heco_circuit.specs.Plans.{Plan}
 use Rattle.heco_noise.specs.Rows.{passes}
 use Rattle.heco_rewrites.specs.Wires.{operands, maker}
 use Rattle.heco_rewrites.specs.Needed.{has, reads}
-use Rattle.heco_rewrites.proofs.Dropping.{has_contained, contained_has}
+use Rattle.heco_rewrites.proofs.Dropping.{has_contained}
 use Rattle.heco_plainvec.specs.declared.multiple.Multiple.{Multiple}
-use Rattle.heco_plainvec.specs.Gathering.{cell_only, multiple_where, multiple_of, numbered, multiples, asked, agree, weighed_bound, serves, chosen, wires, most_vectors}
+use Rattle.heco_plainvec.specs.Gathering.{cell_only, multiple_where, multiple_of, multiples, asked, agree, weighed_bound, serves, chosen, wires, most_vectors}
 use Rattle.heco_plainvec.specs.Gathered.{source_where, source, wire_of_multiple, first_multiple, leader_where, leader, stays}
-use Rattle.heco_plainvec.proofs.Numbered.{get-length, get_is, any_there, any_found, maker_at, maker_is, maker_input, found, there, first_least}
+use Rattle.heco_plainvec.proofs.Numbered.{get_is, any_there, maker_at, maker_is, maker_input, found, there, first_least}
 
 -- ---- one gate as a multiple
 where_is : (only : Bool) (a wire : ℕ) (g : Gate) (m : Multiple) → multiple_where only a wire g ≡ Some m → (m.wire ≡ wire) × (g ≡ Scale m.by a) × (only ≡ true)

@@ -1,16 +1,14 @@
 -- A gathered circuit means what the circuit means, and its wires that stay have their bounds.
-use Rattle.std.proofs.Common.{◌≡◌, ◌∙◌, refl, sym, ap, ℕ, ◌+◌, ◌<◌, List, map, length, arith, subst, true}
-use Rattle.std.specs.Prelude.{Option, Some, None, slice_get, slice_index}
+use Rattle.std.proofs.Common.{◌≡◌, ◌∙◌, sym, ap, ℕ, ◌+◌, ◌<◌, List, map, length, subst, true}
+use Rattle.std.specs.Prelude.{None, slice_index}
 use Rattle.std.proofs.lemmas.List.{length-map}
 use Rattle.heco_nums.specs.Presets.{modulus_of, slots_of}
 use Rattle.heco_circuit.specs.declared.gate.Output.{Output}
-use Rattle.heco_circuit.specs.declared.gate.Cell.{Cell}
 use Rattle.heco_circuit.specs.Circuits.{IsCircuit}
 use Rattle.heco_circuit.specs.Plans.{Plan, wire_parts, is_cell}
-use Rattle.heco_meaning.specs.Meanings.{meaning_of, wires_of, output_values, cell_value}
-use Rattle.heco_thrift.specs.Homes.{all_cells}
+use Rattle.heco_meaning.specs.Meanings.{meaning_of, output_values}
 use Rattle.heco_thrift.specs.Thrift.{bounds_of}
-use Rattle.heco_rewrites.specs.Wires.{first_wires, cell_over, output_over}
+use Rattle.heco_rewrites.specs.Wires.{first_wires, output_over}
 use Rattle.heco_rewrites.proofs.Along.{along_parts, along_slots, along_bounds}
 use Rattle.heco_plainvec.specs.Gathered.{source, name, gathered_gates, gathered_vectors, gathered}
 use Rattle.heco_plainvec.proofs.Numbered.{get_flat}

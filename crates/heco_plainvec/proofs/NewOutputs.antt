@@ -1,6 +1,6 @@
 -- The outputs over the names of all wires, as a list has them.
-use Rattle.std.proofs.Common.{◌≡◌, ℕ, zero, suc, ◌+◌, ◌-◌, ◌<◌, List, [], ◌∷◌, ◌++◌, length, length-append, map, refl, ap, sym, ◌∙◌, arith, Bool, true, false, ◌&&◌, eqb, ltb}
-use Rattle.std.specs.Prelude.{Option, Some, slice_get, slice_index}
+use Rattle.std.proofs.Common.{◌≡◌, ℕ, suc, ◌+◌, ◌-◌, ◌<◌, List, [], ◌∷◌, length, length-append, map, refl, ap, ◌∙◌, arith, true, eqb}
+use Rattle.std.specs.Prelude.{Some, slice_get, slice_index}
 use Rattle.std.proofs.lemmas.Bool.{ltb-true}
 use Rattle.heco_nums.specs.declared.shape.Shape.{Shape}
 use Rattle.heco_nums.specs.Presets.{modulus_of, slots_of}
@@ -18,7 +18,7 @@ use Rattle.heco_plainvec.specs.Gathering.{wires}
 use Rattle.heco_plainvec.specs.Gathered.{name, gathered_gates, gathered_vectors, gathered}
 use Rattle.heco_plainvec.proofs.Rows.{each_at}
 use Rattle.heco_plainvec.proofs.Outputs.{cells_stand}
-use Rattle.heco_plainvec.proofs.Whole.{Valid, valid, length-input_parts}
+use Rattle.heco_plainvec.proofs.Whole.{Valid, length-input_parts}
 
 length-parts : (c : Plan) → length (wire_parts c) ≡ length c.inputs + length c.gates
 length-parts c = length-more (input_parts c.inputs) c.gates ∙ ap (λ n. n + length c.gates) (length-input_parts c.inputs)

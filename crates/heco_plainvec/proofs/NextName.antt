@@ -1,6 +1,6 @@
 -- The names and the gates with what comes of one gate more.
-use Rattle.std.proofs.Common.{◌≡◌, ℕ, zero, suc, ◌+◌, ◌-◌, ◌^◌, ◌<◌, ◌≤◌, List, [], ◌∷◌, ◌++◌, length, map, take, refl, ap, sym, ◌∙◌, arith, Bool, true, false, cond, eqb, leb, get_or, length-append, subst}
-use Rattle.std.specs.Prelude.{Option, Some, None, slice_index, slice_get, filter_map}
+use Rattle.std.proofs.Common.{◌≡◌, ℕ, zero, suc, ◌+◌, ◌<◌, ◌≤◌, List, [], ◌∷◌, ◌++◌, length, map, take, ap, sym, ◌∙◌, arith, get_or, length-append, subst}
+use Rattle.std.specs.Prelude.{slice_index, filter_map}
 use Rattle.std.specs.List.{range_with_len, enumerate_from, cons_option}
 use Rattle.std.proofs.lemmas.Bool.{eqb-true, eq-eqb, ne_eqb}
 use Rattle.std.proofs.lemmas.List.{ext_get_or}
@@ -8,15 +8,13 @@ use Rattle.std.proofs.lemmas.List.FromFn.{get_or-map-range_with_len, map-range_w
 use Rattle.heco_circuit.specs.declared.gate.Gate.{Gate}
 use Rattle.heco_circuit.specs.declared.gate.Gate.TheVariants.{Neg}
 use Rattle.heco_circuit.specs.Plans.{Plan}
-use Rattle.heco_rewrites.specs.Wires.{maker}
 use Rattle.heco_plainvec.specs.declared.rewriting.Image.{Image}
 use Rattle.heco_plainvec.specs.declared.rewriting.Image.TheVariants.{Stands, Goes}
-use Rattle.heco_plainvec.specs.Gathered.{leader, stays, place, name, gathered_gate}
+use Rattle.heco_plainvec.specs.Gathered.{leader, place, name, gathered_gate}
 use Rattle.heco_plainvec.specs.Finding.{IsImage, standing, new_name}
-use Rattle.heco_plainvec.proofs.Numbered.{maker_at, numbered_more}
+use Rattle.heco_plainvec.proofs.Numbered.{numbered_more}
 use Rattle.heco_plainvec.proofs.Leaders.{leader_stays, input_stays}
 use Rattle.heco_plainvec.proofs.Places.{place_kept, place_gone, place_inputs, name_itself}
-use Rattle.heco_plainvec.proofs.Whole.{Valid}
 
 -- the new gates of the first i old ones
 abbrev pub gathered_front : Plan → ℕ → List Gate

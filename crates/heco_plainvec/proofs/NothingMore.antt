@@ -1,28 +1,26 @@
 -- In a gathered circuit the rule finds nothing more.
-use Rattle.std.proofs.Common.{◌≡◌, ◌∙◌, refl, sym, ap, ℕ, zero, suc, ◌+◌, ◌-◌, ◌<◌, ◌≤◌, min, List, [], ◌∷◌, ◌++◌, length, length-append, map, take, arith, inl, inr, Bool, true, false, not, ◌&&◌, ◌||◌, cond, eqb, ltb, leb, subst}
-use Rattle.std.specs.Prelude.{Option, Some, None, slice_get, slice_index, filter_map, filter, Contains}
-use Rattle.std.specs.List.{list_any, enumerate_from, cons_option, range_with_len}
+use Rattle.std.proofs.Common.{◌≡◌, ◌∙◌, refl, sym, ap, ℕ, zero, suc, ◌+◌, ◌-◌, ◌<◌, ◌≤◌, List, [], ◌∷◌, length, length-append, map, take, arith, inl, inr, Bool, true, false, not, ◌&&◌, ◌||◌, cond, eqb, ltb, leb, subst}
+use Rattle.std.specs.Prelude.{Some, None, slice_get, slice_index, filter_map, filter}
+use Rattle.std.specs.List.{enumerate_from, cons_option, range_with_len}
 use Rattle.std.proofs.lemmas.Bool.{eqb-true, eq-eqb, ltb-true}
 use Rattle.std.proofs.lemmas.List.{length-map, length-take, take_all}
 use Rattle.heco_nums.specs.Presets.{slots_of}
 use Rattle.heco_noise.specs.Rows.{passes, weighed}
-use Rattle.heco_fields.proofs.Bools.{both_true}
 use Rattle.heco_circuit.specs.declared.gate.Gate.{Gate}
 use Rattle.heco_circuit.specs.declared.gate.Gate.TheVariants.{Neg, Add, Sub, Mul, Relin, Scale, Shift, Turn, Weigh}
 use Rattle.heco_circuit.specs.Bounds.{vector_weight_of}
 use Rattle.heco_circuit.specs.Circuits.{IsCircuit}
 use Rattle.heco_circuit.specs.Plans.{Plan}
 use Rattle.heco_thrift.specs.Thrift.{bounds_of}
-use Rattle.heco_rewrites.specs.Wires.{over}
 use Rattle.heco_rewrites.specs.Needed.{has}
 use Rattle.heco_rewrites.proofs.OtherNames.{first}
 use Rattle.heco_plainvec.specs.declared.multiple.Multiple.{Multiple}
 use Rattle.heco_plainvec.specs.Gathering.{cell_only, multiples, asked, agree, at_slot, vector, weighed_bound, serves, finds, chosen, wires, most_vectors}
 use Rattle.heco_plainvec.specs.Gathered.{source, stays, place, name, gate_where, vector_number, gathered_gate, gathered_gates, gathered_vectors, gathered}
 use Rattle.heco_plainvec.proofs.Numbered.{get-length, get_is}
-use Rattle.heco_plainvec.proofs.Leaders.{IsMultiple, multiple_is, source_has, operand_stays, Served, served}
+use Rattle.heco_plainvec.proofs.Leaders.{IsMultiple, multiple_is, source_has, operand_stays, served}
 use Rattle.heco_plainvec.proofs.Places.{place_kept, place_gone, place_inputs, name_itself}
-use Rattle.heco_plainvec.proofs.Images.{IsKept, IsWeighed, image_is}
+use Rattle.heco_plainvec.proofs.Images.{IsKept, image_is}
 use Rattle.heco_plainvec.proofs.Reading.{same_cell_only}
 use Rattle.heco_plainvec.proofs.Table.{renamed, table, same_asked}
 use Rattle.heco_plainvec.proofs.Whole.{Valid, valid, earlier}

@@ -1,9 +1,9 @@
 -- What comes of one gate: a product, nothing, or the gate over the new numbers of its operands.
-use Rattle.std.proofs.Common.{◌≡◌, ℕ, ◌+◌, ◌<◌, ◌≤◌, List, [], ◌∷◌, length, map, refl, ap, sym, ◌∙◌, arith, Bool, true, false, ◌&&◌, not, cond, eqb, get_or, subst, inl, inr}
-use Rattle.std.specs.Prelude.{Option, Some, None, slice_index, Contains, slice_get}
+use Rattle.std.proofs.Common.{◌≡◌, ℕ, ◌+◌, ◌<◌, ◌≤◌, List, [], ◌∷◌, length, map, refl, ap, sym, ◌∙◌, arith, Bool, true, false, ◌&&◌, not, cond, get_or, subst, inl, inr}
+use Rattle.std.specs.Prelude.{Option, Some, None, slice_index, Contains}
 use Rattle.std.specs.List.{range_with_len}
 use Rattle.std.specs.Option.{option_map}
-use Rattle.std.proofs.lemmas.Bool.{eqb-true, eq-eqb, ne_eqb, cases_lt}
+use Rattle.std.proofs.lemmas.Bool.{eq-eqb, ne_eqb, cases_lt}
 use Rattle.std.proofs.lemmas.List.FromFn.{get_or-map-range_with_len}
 use Rattle.heco_circuit.specs.declared.gate.Gate.{Gate}
 use Rattle.heco_circuit.specs.declared.gate.Gate.TheVariants.{Neg, Add, Sub, Mul, Relin, Scale, Shift, Turn, Weigh}
@@ -15,11 +15,11 @@ use Rattle.heco_plainvec.specs.declared.multiple.Scaled.{Scaled}
 use Rattle.heco_plainvec.specs.declared.multiple.Product.{Product}
 use Rattle.heco_plainvec.specs.declared.multiple.Replacing.{Replacing}
 use Rattle.heco_plainvec.specs.Gathering.{is_read, cell_only, wires, chosen}
-use Rattle.heco_plainvec.specs.Gathered.{source_where, source, first_multiple, leader, stays, name, vector_number, gate_where, gathered_gate}
+use Rattle.heco_plainvec.specs.Gathered.{source_where, source, first_multiple, leader, name, vector_number, gate_where, gathered_gate}
 use Rattle.heco_plainvec.specs.Finding.{scaled_where, product_at, replacing_by, replacing_where, replacing}
 use Rattle.heco_plainvec.proofs.Numbered.{maker_is}
-use Rattle.heco_plainvec.proofs.Rows.{each_at, only_at, made_below}
-use Rattle.heco_plainvec.proofs.Leaders.{leader_itself, leader_of, source_stays, first_below}
+use Rattle.heco_plainvec.proofs.Rows.{each_at, only_at}
+use Rattle.heco_plainvec.proofs.Leaders.{leader_itself, leader_of, first_below}
 use Rattle.heco_plainvec.proofs.Swept.{Earlier, source_earlier}
 
 -- ---- what the lists say

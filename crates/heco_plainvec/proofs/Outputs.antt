@@ -1,11 +1,11 @@
 -- The elements of outputs: what they are, and that they may stand.
-use Rattle.std.proofs.Common.{◌≡◌, ℕ, zero, suc, ◌+◌, ◌-◌, ◌*◌, ◌%◌, ◌^◌, ◌<◌, ◌≤◌, List, [], ◌∷◌, ◌++◌, length, map, refl, ap, sym, ◌∙◌, arith, subst, Bool, true, false, cond, ◌&&◌, ◌||◌, not, eqb, ltb, leb, get_or}
-use Rattle.std.specs.Prelude.{Option, Some, None, slice_get, slice_index, filter_map, flat_map}
-use Rattle.std.specs.List.{list_any, list_all, range_with_len, cons_option}
-use Rattle.std.proofs.lemmas.Bool.{eqb-true, eq-eqb, ltb-true, lt-ltb, leb-true}
+use Rattle.std.proofs.Common.{◌≡◌, ℕ, zero, suc, ◌-◌, ◌*◌, ◌%◌, ◌^◌, ◌<◌, List, [], ◌∷◌, length, map, refl, ap, sym, ◌∙◌, arith, subst, Bool, true, cond, ◌&&◌, ◌||◌, not, eqb, leb}
+use Rattle.std.specs.Prelude.{Option, Some, None, slice_get, slice_index, filter_map}
+use Rattle.std.specs.List.{list_any, list_all, cons_option}
+use Rattle.std.proofs.lemmas.Bool.{eq-eqb, ltb-true, lt-ltb, leb-true}
 use Rattle.std.proofs.Math.Nat.{zero-mod}
 use Rattle.std.proofs.lemmas.List.{map_push}
-use Rattle.std.proofs.lemmas.List.FromFn.{get_or-map-range_with_len, length-map-range_with_len}
+use Rattle.std.proofs.lemmas.List.FromFn.{length-map-range_with_len}
 use Rattle.heco_nums.specs.Presets.{modulus_of, slots_of}
 use Rattle.heco_nums.specs.declared.shape.Shape.{Shape}
 use Rattle.heco_fields.specs.Runs.{all_along}
@@ -20,14 +20,12 @@ use Rattle.heco_circuit.specs.Validity.{is_between, has_parts, is_wire}
 use Rattle.heco_meaning.specs.Meanings.{wire_at, products, cell_value, output_values}
 use Rattle.heco_thrift.specs.Homes.{all_cells}
 use Rattle.heco_rewrites.specs.Wires.{Wires, cell_over, output_over}
-use Rattle.heco_plainvec.specs.declared.multiple.Multiple.{Multiple}
-use Rattle.heco_plainvec.specs.declared.multiple.Asked.{Asked}
-use Rattle.heco_plainvec.specs.Gathering.{multiples, asked_at, asked_by, asked, agree, at_slot, vector}
+use Rattle.heco_plainvec.specs.Gathering.{multiples, asked_at, asked_by, asked, at_slot, vector}
 use Rattle.heco_plainvec.specs.Gathered.{source, name}
 use Rattle.heco_plainvec.proofs.Numbered.{get_flat, maker_is}
 use Rattle.heco_plainvec.proofs.Leaders.{multiple_has, IsSource, source_is, chosen_serves, served}
 use Rattle.heco_plainvec.proofs.Asked.{vector_there}
-use Rattle.heco_plainvec.proofs.Known.{known, parts_known, slots_known}
+use Rattle.heco_plainvec.proofs.Known.{parts_known, slots_known}
 use Rattle.heco_plainvec.proofs.Swept.{IsGone, IsSwept, name_below}
 
 -- ---- places of products and multiples

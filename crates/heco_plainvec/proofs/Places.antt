@@ -1,9 +1,9 @@
 -- How many wires below a wire stay.
-use Rattle.std.proofs.Common.{◌≡◌, ℕ, zero, suc, ◌+◌, ◌-◌, ◌<◌, ◌≤◌, length, refl, ap, sym, ◌∙◌, arith, Bool, true, false, cond, inl, inr}
+use Rattle.std.proofs.Common.{◌≡◌, ℕ, zero, suc, ◌+◌, ◌-◌, ◌<◌, ◌≤◌, length, refl, ap, sym, ◌∙◌, arith, true, false, cond, inl, inr}
 use Rattle.std.proofs.lemmas.Bool.{cases_lt}
-use Rattle.std.specs.Prelude.{if◌then◌else◌, None}
+use Rattle.std.specs.Prelude.{None}
 use Rattle.heco_circuit.specs.Plans.{Plan}
-use Rattle.heco_plainvec.specs.Gathered.{source, stays, place, name, leader}
+use Rattle.heco_plainvec.specs.Gathered.{source, stays, place, name}
 use Rattle.heco_plainvec.proofs.Leaders.{input_stays, source_stays, leader_itself}
 
 pub place_more : (c : Plan) (u : ℕ) → place c (u + 1) ≡ place c u + cond (stays c u) 1 0

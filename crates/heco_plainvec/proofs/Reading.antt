@@ -1,7 +1,7 @@
 -- Which wires of a gathered circuit its gates read: the same as of the circuit, under their new numbers.
-use Rattle.std.proofs.Common.{◌≡◌, ◌∙◌, refl, sym, ap, ℕ, zero, suc, ◌+◌, ◌<◌, ◌≤◌, List, [], ◌∷◌, length, map, arith, inl, inr, Bool, true, false, not, ◌||◌, cond, eqb, subst}
-use Rattle.std.specs.Prelude.{Option, Some, None, slice_get, Contains}
-use Rattle.std.specs.List.{list_any, enumerate_from}
+use Rattle.std.proofs.Common.{◌≡◌, ◌∙◌, refl, sym, ap, ℕ, ◌+◌, List, [], ◌∷◌, length, map, arith, inl, inr, Bool, true, false, not, ◌||◌, cond, eqb, subst}
+use Rattle.std.specs.Prelude.{Option, Some, None, slice_get}
+use Rattle.std.specs.List.{list_any}
 use Rattle.std.proofs.lemmas.Bool.{eqb-true, eq-eqb}
 use Rattle.heco_circuit.specs.declared.gate.Gate.{Gate}
 use Rattle.heco_circuit.specs.declared.gate.Gate.TheVariants.{Neg, Add, Sub, Mul, Relin, Scale, Shift, Turn, Weigh}
@@ -11,11 +11,11 @@ use Rattle.heco_rewrites.specs.Needed.{has, reads}
 use Rattle.heco_rewrites.proofs.OtherNames.{first}
 use Rattle.heco_rewrites.proofs.Dropping.{has_contained, contained_has}
 use Rattle.heco_plainvec.specs.Gathering.{cell_only}
-use Rattle.heco_plainvec.specs.Gathered.{source, first_multiple, leader, stays, place, name, vector_number, gate_where, gathered_gate, gathered_gates, gathered}
+use Rattle.heco_plainvec.specs.Gathered.{source, first_multiple, stays, name, gate_where, gathered_gate, gathered_gates, gathered}
 use Rattle.heco_plainvec.proofs.Numbered.{any_there, any_found, found, there}
-use Rattle.heco_plainvec.proofs.Leaders.{IsSource, source_is, operand_stays, leader_of, source_stays, first_source, first_stays}
+use Rattle.heco_plainvec.proofs.Leaders.{IsSource, source_is, operand_stays, source_stays, first_source, first_stays}
 use Rattle.heco_plainvec.proofs.Places.{place_apart, name_itself}
-use Rattle.heco_plainvec.proofs.Images.{IsKept, IsWeighed, image_is, scale_at}
+use Rattle.heco_plainvec.proofs.Images.{image_is, scale_at}
 
 -- wires that stay as they were have names of their own
 pub apart : (c : Plan) (a b : ℕ) → source c a ≡ None → source c b ≡ None → name c a ≡ name c b → a ≡ b

@@ -1,7 +1,7 @@
 -- Lists with an entry for each wire.
 use Rattle.std.proofs.Common.{◌≡◌, ℕ, ◌+◌, ◌<◌, List, [], ◌∷◌, ◌++◌, length, map, take, refl, ap, sym, Bool, ◌∙◌, arith, get_or, false, not}
-use Rattle.std.specs.Prelude.{Some, None, slice_get, filter_map}
-use Rattle.std.specs.List.{range_with_len, enumerate_from, cons_option}
+use Rattle.std.specs.Prelude.{Some, filter_map}
+use Rattle.std.specs.List.{enumerate_from, cons_option}
 use Rattle.std.proofs.lemmas.List.FromFn.{length-map-range_with_len, get_or-map-range_with_len, length-range_with_len}
 use Rattle.heco_circuit.specs.declared.gate.Gate.{Gate}
 use Rattle.heco_circuit.specs.declared.gate.Gate.TheVariants.{Neg}

@@ -1,6 +1,6 @@
 -- A gathered circuit's file is short, where that of the circuit leaves room.
-use Rattle.std.proofs.Common.{◌≡◌, ◌∙◌, refl, sym, ap, ℕ, zero, suc, ◌+◌, ◌*◌, ◌-◌, ◌^◌, ◌<◌, ◌≤◌, List, [], ◌∷◌, ◌++◌, map, length, length-append, arith, inl, inr, true, ◌&&◌, eqb}
-use Rattle.std.specs.Prelude.{codes, Some, slice_get, flat_map, IsTrue, nat_le}
+use Rattle.std.proofs.Common.{◌≡◌, ◌∙◌, refl, ap, ℕ, ◌+◌, ◌*◌, ◌-◌, ◌≤◌, List, [], ◌∷◌, ◌++◌, map, length, length-append, arith, inl, inr, true, eqb}
+use Rattle.std.specs.Prelude.{codes, Some, slice_get, flat_map}
 use Rattle.std.specs.List.{list_all, sum_by}
 use Rattle.std.specs.Int.{w16, w32, to_be_bytes}
 use Rattle.std.proofs.lemmas.Bool.{eqb-true, le-leb}
@@ -8,7 +8,6 @@ use Rattle.std.proofs.lemmas.Bool.Decides.{nat_tests}
 use Rattle.std.proofs.lemmas.List.{length-map}
 use Rattle.std.proofs.lemmas.List.Sums.{sum_by-cons}
 use Rattle.heco_nums.specs.Presets.{slots_of, modulus_of}
-use Rattle.heco_nums.specs.declared.shape.Shape.{Shape}
 use Rattle.heco_fields.specs.Formats.{versioned_text}
 use Rattle.heco_fields.proofs.Bools.{both_true}
 use Rattle.heco_circuit.specs.declared.gate.Cell.{Cell}

@@ -1,6 +1,6 @@
 -- One gate more, in each of three cases: it stays, a product stands in its place, or it goes.
-use Rattle.std.proofs.Common.{◌≡◌, ℕ, zero, suc, ◌+◌, ◌*◌, ◌%◌, ◌<◌, ◌≤◌, List, [], ◌∷◌, length, map, refl, ap, sym, ◌∙◌, arith, subst, Bool, true, false, cond, eqb, ◌&&◌, ltb, inl, inr}
-use Rattle.std.specs.Prelude.{Option, Some, None, slice_get, slice_index, Contains}
+use Rattle.std.proofs.Common.{◌≡◌, ℕ, ◌+◌, ◌*◌, ◌%◌, ◌<◌, ◌≤◌, List, [], length, map, refl, ap, sym, ◌∙◌, arith, subst, Bool, true, false, cond, ltb, inl, inr}
+use Rattle.std.specs.Prelude.{Option, Some, None, slice_get, slice_index}
 use Rattle.std.proofs.lemmas.Bool.{eqb-true, lt-ltb, eq-eqb, cases_lt}
 use Rattle.heco_nums.specs.Presets.{modulus_of, slots_of}
 use Rattle.heco_noise.specs.Rows.{passes}
@@ -11,9 +11,9 @@ use Rattle.heco_circuit.specs.declared.gate.Gate.TheVariants.{Scale, Weigh}
 use Rattle.heco_circuit.specs.Plans.{Plan}
 use Rattle.heco_circuit.specs.Validity.{parts_of, is_gate, is_wire}
 use Rattle.heco_circuit.specs.Bounds.{bound_of, weights_of, vector_weight_of}
-use Rattle.heco_meaning.specs.Meanings.{wire_at, wire_of, products}
+use Rattle.heco_meaning.specs.Meanings.{wire_at, products}
 use Rattle.heco_thrift.specs.Thrift.{bounds_of}
-use Rattle.heco_rewrites.specs.Wires.{Wires, behind, operands, over, Even, maker}
+use Rattle.heco_rewrites.specs.Wires.{Wires, behind, over, maker}
 use Rattle.heco_rewrites.specs.Needed.{has}
 use Rattle.heco_rewrites.proofs.OtherNames.{first, over_is_gate}
 use Rattle.heco_rewrites.proofs.Named.{longer, even_more}
@@ -22,9 +22,9 @@ use Rattle.heco_plainvec.specs.Gathering.{vector, chosen, weighed_bound}
 use Rattle.heco_plainvec.specs.Gathered.{source, first_multiple, leader, stays, place, name, vector_number, gate_where, gathered_gate, gathered_vectors}
 use Rattle.heco_plainvec.proofs.Numbered.{maker_at}
 use Rattle.heco_plainvec.proofs.Leaders.{IsSource, source_is, operand_stays, leader_itself, leader_of, source_stays, first_source, first_below, chosen_serves, Served, served}
-use Rattle.heco_plainvec.proofs.Places.{place_kept, place_gone, name_itself}
+use Rattle.heco_plainvec.proofs.Places.{place_kept, place_gone}
 use Rattle.heco_plainvec.proofs.Vectors.{keeps, vector_below, vector_at, weight_at}
-use Rattle.heco_plainvec.proofs.Known.{Known, known, parts_known, bound_known, slots_known, given, known_more, known_last, OperandsKnown, stand, given_over}
+use Rattle.heco_plainvec.proofs.Known.{known, parts_known, bound_known, slots_known, given, known_more, known_last, OperandsKnown, stand, given_over}
 use Rattle.heco_plainvec.proofs.Swept.{Earlier, source_earlier, name_below, IsGone, Before, IsSwept, before_old, before_new, before_last}
 
 -- the wires with that of a gate, where there is one

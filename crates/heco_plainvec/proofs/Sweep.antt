@@ -1,21 +1,18 @@
 -- All gates of a circuit, and those that are gathered.
-use Rattle.std.proofs.Common.{◌≡◌, ℕ, zero, suc, ◌+◌, ◌<◌, ◌≤◌, List, [], ◌∷◌, length, map, refl, ap, sym, ◌∙◌, arith, subst, Bool, true, false, cond, ◌&&◌, replicate}
-use Rattle.std.specs.Prelude.{Option, Some, None, slice_get, slice_index, filter_map, IsTrue}
+use Rattle.std.proofs.Common.{◌≡◌, ℕ, suc, ◌+◌, List, [], ◌∷◌, length, refl, ap, ◌∙◌, arith, Bool, true, false, cond}
+use Rattle.std.specs.Prelude.{Option, Some, None, slice_get, slice_index, filter_map}
 use Rattle.std.specs.List.{enumerate_from, cons_option}
-use Rattle.std.specs.Option.{is_none}
 use Rattle.heco_nums.specs.Presets.{modulus_of, slots_of}
 use Rattle.heco_noise.specs.Rows.{passes}
 use Rattle.heco_fields.specs.Runs.{along, all_along}
 use Rattle.heco_fields.proofs.Bools.{both_true, and_true}
 use Rattle.heco_circuit.specs.declared.gate.Gate.{Gate}
 use Rattle.heco_circuit.specs.Plans.{Plan}
-use Rattle.heco_circuit.specs.Validity.{parts_of, with_gate, is_gate}
+use Rattle.heco_circuit.specs.Validity.{with_gate, is_gate}
 use Rattle.heco_circuit.specs.Bounds.{bound_of, with_bound, weights_of, first_passing}
 use Rattle.heco_thrift.specs.Thrift.{bounds_of}
-use Rattle.heco_rewrites.specs.Wires.{Wires, behind, Even}
-use Rattle.heco_rewrites.proofs.Named.{longer, even_more}
-use Rattle.heco_rewrites.proofs.Along.{along_bounds}
-use Rattle.heco_plainvec.specs.Gathered.{gathered_gate, gathered_gates, gathered_vectors}
+use Rattle.heco_rewrites.specs.Wires.{Wires, behind}
+use Rattle.heco_plainvec.specs.Gathered.{gathered_gate, gathered_vectors}
 use Rattle.heco_plainvec.proofs.Known.{bound_known, known_along}
 use Rattle.heco_plainvec.proofs.Swept.{Earlier, IsSwept}
 use Rattle.heco_plainvec.proofs.Step.{after, IsNext, IsStep, step}

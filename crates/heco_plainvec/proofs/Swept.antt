@@ -1,6 +1,6 @@
 -- Behind the first gates of a circuit and those of them that are gathered: what the new wires are.
-use Rattle.std.proofs.Common.{◌≡◌, ℕ, ◌+◌, ◌*◌, ◌%◌, ◌<◌, ◌≤◌, List, [], ◌∷◌, length, map, refl, ap, sym, ◌∙◌, arith, inl, inr, subst}
-use Rattle.std.specs.Prelude.{Option, Some, None, slice_get, slice_index, Contains}
+use Rattle.std.proofs.Common.{◌≡◌, ℕ, ◌+◌, ◌*◌, ◌%◌, ◌<◌, [], length, map, ap, sym, ◌∙◌, arith, inl, inr, subst}
+use Rattle.std.specs.Prelude.{Some, None, slice_get, slice_index, Contains}
 use Rattle.std.proofs.lemmas.Bool.{cases_lt}
 use Rattle.heco_nums.specs.Presets.{modulus_of}
 use Rattle.heco_circuit.specs.declared.gate.Gate.{Gate}
@@ -11,7 +11,6 @@ use Rattle.heco_rewrites.specs.Wires.{Wires, behind, operands, Even, maker}
 use Rattle.heco_rewrites.proofs.OtherNames.{first}
 use Rattle.heco_plainvec.specs.Gathering.{vector}
 use Rattle.heco_plainvec.specs.Gathered.{source, leader, place, name, gathered_vectors}
-use Rattle.heco_plainvec.proofs.Numbered.{maker_at}
 use Rattle.heco_plainvec.proofs.Leaders.{IsSource, source_is, leader_below, leader_stays}
 use Rattle.heco_plainvec.proofs.Places.{place_before}
 use Rattle.heco_plainvec.proofs.Known.{known, parts_known, slots_known, known_more}

@@ -1,12 +1,10 @@
 -- The multiples of a wire that is not chosen, in the gathered circuit, and what is asked of them: the same under new numbers.
-use Rattle.std.proofs.Common.{◌≡◌, ◌∙◌, refl, sym, ap, ℕ, zero, suc, ◌+◌, ◌<◌, ◌≤◌, List, [], ◌∷◌, ◌++◌, length, map, arith, inl, inr, Bool, true, false, not, ◌&&◌, ◌||◌, cond, eqb, subst}
-use Rattle.std.specs.Prelude.{Option, Some, None, slice_get, slice_index, filter_map, flat_map}
-use Rattle.std.specs.List.{list_any, enumerate_from, cons_option, range_with_len}
+use Rattle.std.proofs.Common.{◌≡◌, ◌∙◌, refl, sym, ap, ℕ, suc, ◌+◌, List, [], ◌∷◌, ◌++◌, length, map, arith, Bool, true, false, ◌&&◌, cond, eqb, subst}
+use Rattle.std.specs.Prelude.{Option, Some, None, slice_get, filter_map, flat_map}
+use Rattle.std.specs.List.{enumerate_from, cons_option}
 use Rattle.std.specs.Option.{option_map}
 use Rattle.std.proofs.lemmas.Bool.{eqb-true, eq-eqb}
-use Rattle.std.proofs.lemmas.List.{length-map, map-append}
-use Rattle.heco_nums.specs.Presets.{slots_of}
-use Rattle.heco_noise.specs.Rows.{passes, weighed}
+use Rattle.std.proofs.lemmas.List.{map-append}
 use Rattle.heco_circuit.specs.declared.gate.Cell.{Cell}
 use Rattle.heco_circuit.specs.declared.gate.Cell.TheVariants.{Number, Slot}
 use Rattle.heco_circuit.specs.declared.gate.Gate.{Gate}
@@ -18,10 +16,8 @@ use Rattle.heco_rewrites.specs.Wires.{over, cell_over, output_over}
 use Rattle.heco_rewrites.specs.Needed.{has}
 use Rattle.heco_rewrites.proofs.OtherNames.{first}
 use Rattle.heco_plainvec.specs.declared.multiple.Multiple.{Multiple}
-use Rattle.heco_plainvec.specs.declared.multiple.Asked.{Asked}
-use Rattle.heco_plainvec.specs.Gathering.{cell_only, multiple_where, multiple_of, numbered, multiples, asked_at, asked_by, asked, chosen}
+use Rattle.heco_plainvec.specs.Gathering.{cell_only, multiple_where, multiple_of, multiples, asked_at, asked_by, asked, chosen}
 use Rattle.heco_plainvec.specs.Gathered.{source, first_multiple, leader, stays, place, name, gate_where, gathered_gate, gathered_gates, gathered}
-use Rattle.heco_plainvec.proofs.Numbered.{found}
 use Rattle.heco_plainvec.proofs.Leaders.{IsMultiple, multiple_is, IsSource, source_is, operand_stays, leader_itself, leader_of, source_stays, first_source, leader_stays}
 use Rattle.heco_plainvec.proofs.Places.{place_kept, place_gone, place_inputs, place_apart, name_itself}
 use Rattle.heco_plainvec.proofs.Images.{scale_at}

@@ -1,32 +1,21 @@
 -- A gathered circuit is valid.
-use Rattle.std.proofs.Common.{◌≡◌, ◌∙◌, refl, sym, ap, ℕ, zero, suc, ◌+◌, ◌-◌, ◌^◌, ◌<◌, ◌≤◌, min, List, [], ◌∷◌, ◌++◌, map, take, length, length-append, arith, inl, inr, Bool, true, false, ◌&&◌, eqb, leb, cond, subst, get_or}
-use Rattle.std.specs.Prelude.{Option, Some, None, slice_get, slice_index, flat_map, filter_map, filter, IsTrue}
-use Rattle.std.specs.List.{list_all, range_with_len, cons_option, enumerate_from}
+use Rattle.std.proofs.Common.{◌≡◌, refl, sym, ap, ℕ, ◌+◌, ◌-◌, ◌^◌, ◌<◌, ◌≤◌, List, [], ◌∷◌, ◌++◌, map, length, length-append, arith, Bool, true, subst}
+use Rattle.std.specs.Prelude.{filter}
+use Rattle.std.specs.List.{list_all}
 use Rattle.std.specs.Option.{is_none}
-use Rattle.std.proofs.lemmas.Bool.{eqb-true, eq-eqb, le-leb, leb-true}
+use Rattle.std.proofs.lemmas.Bool.{le-leb, leb-true}
 use Rattle.std.proofs.lemmas.Bool.Decides.{nat_tests}
 use Rattle.std.proofs.lemmas.List.{length-map, length-take}
-use Rattle.std.proofs.lemmas.List.FromFn.{length-map-range_with_len}
 use Rattle.heco_nums.specs.Presets.{modulus_of, slots_of}
 use Rattle.heco_fields.specs.Runs.{along, all_along}
 use Rattle.heco_fields.proofs.Bools.{both_true, and_true}
-use Rattle.heco_circuit.specs.declared.gate.Cell.{Cell}
-use Rattle.heco_circuit.specs.declared.gate.Cell.TheVariants.{Number, Slot}
-use Rattle.heco_circuit.specs.declared.gate.Gate.{Gate}
-use Rattle.heco_circuit.specs.declared.gate.Gate.TheVariants.{Scale}
-use Rattle.heco_circuit.specs.declared.gate.Output.{Output}
-use Rattle.heco_circuit.specs.Bounds.{weights_of, first_passing}
-use Rattle.heco_circuit.specs.Circuits.{IsCircuit, passing, is_quiet, is_short}
-use Rattle.heco_circuit.specs.Plans.{Plan, input_parts, wire_parts, is_vector, is_output, is_cell, push, are_inputs, are_vectors, are_gates, are_outputs, is_formed}
-use Rattle.heco_circuit.specs.Validity.{is_between, is_gate, is_wire, with_gate, parts_of}
-use Rattle.heco_thrift.specs.Homes.{all_cells}
-use Rattle.heco_rewrites.specs.Wires.{behind, first_wires, cell_over, output_over}
+use Rattle.heco_circuit.specs.Circuits.{IsCircuit}
+use Rattle.heco_circuit.specs.Plans.{Plan, input_parts, wire_parts, is_vector, is_output, is_cell, push, are_vectors, are_gates, are_outputs, is_formed}
+use Rattle.heco_circuit.specs.Validity.{with_gate}
+use Rattle.heco_rewrites.specs.Wires.{first_wires, cell_over, output_over}
 use Rattle.heco_rewrites.proofs.Along.{along_parts}
-use Rattle.heco_plainvec.specs.declared.multiple.Multiple.{Multiple}
-use Rattle.heco_plainvec.specs.declared.multiple.Asked.{Asked}
-use Rattle.heco_plainvec.specs.Gathering.{multiples, asked_at, asked_by, asked, at_slot, vector, chosen, serves, wires, most_vectors, HasRoom}
+use Rattle.heco_plainvec.specs.Gathering.{asked, vector, chosen, serves, wires, most_vectors, HasRoom}
 use Rattle.heco_plainvec.specs.Gathered.{name, gathered_gates, gathered_vectors, gathered}
-use Rattle.heco_plainvec.proofs.Leaders.{IsMultiple, multiple_is}
 use Rattle.heco_plainvec.proofs.AskedAll.{asked_are, vector_fits}
 use Rattle.heco_plainvec.proofs.Sweep.{AreSwept}
 use Rattle.heco_plainvec.proofs.Whole.{Valid, valid, all_wires, new_wires, whole}

@@ -1,28 +1,25 @@
 -- What is known of all wires of a gathered circuit.
-use Rattle.std.proofs.Common.{◌≡◌, ℕ, zero, suc, ◌+◌, ◌-◌, ◌^◌, ◌<◌, ◌≤◌, List, [], ◌∷◌, length, map, refl, ap, sym, ◌∙◌, arith, Bool, true, ◌&&◌, leb}
-use Rattle.std.specs.Prelude.{Option, Some, None, slice_get, slice_index, IsTrue, Contains}
+use Rattle.std.proofs.Common.{◌≡◌, ℕ, suc, ◌+◌, ◌-◌, ◌^◌, List, [], ◌∷◌, length, refl, ap, sym, ◌∙◌, arith, true, ◌&&◌, leb}
+use Rattle.std.specs.Prelude.{Option, Some, None}
 use Rattle.std.specs.List.{list_all}
 use Rattle.std.specs.Option.{is_none}
 use Rattle.std.proofs.lemmas.List.{length-map}
 use Rattle.heco_nums.specs.Presets.{modulus_of, slots_of}
-use Rattle.heco_nums.specs.declared.shape.Shape.{Shape}
 use Rattle.heco_fields.specs.Runs.{along, all_along}
-use Rattle.heco_fields.proofs.Bools.{both_true, and_true}
-use Rattle.heco_circuit.specs.declared.gate.Gate.{Gate}
-use Rattle.heco_circuit.specs.Plans.{Plan, input_parts, are_inputs, are_vectors, are_gates, are_outputs, is_formed, is_vector, is_output, push, wire_parts}
-use Rattle.heco_circuit.specs.Circuits.{IsCircuit, passing, is_quiet, is_short}
-use Rattle.heco_circuit.specs.Validity.{with_gate, is_gate, is_between}
-use Rattle.heco_circuit.specs.Bounds.{fresh_bounds, weights_of, wire_bounds}
-use Rattle.heco_meaning.specs.Meanings.{wires_of, with_wire, filled}
-use Rattle.heco_thrift.specs.Thrift.{bounds_of}
+use Rattle.heco_fields.proofs.Bools.{both_true}
+use Rattle.heco_circuit.specs.Plans.{Plan, input_parts, are_inputs, are_vectors, are_gates, are_outputs, is_vector, is_output, push, wire_parts}
+use Rattle.heco_circuit.specs.Circuits.{IsCircuit, passing}
+use Rattle.heco_circuit.specs.Validity.{is_between}
+use Rattle.heco_circuit.specs.Bounds.{fresh_bounds}
+use Rattle.heco_meaning.specs.Meanings.{filled}
 use Rattle.heco_rewrites.specs.Wires.{Wires, behind, first_wires, Even}
-use Rattle.heco_rewrites.proofs.Along.{along_parts, along_bounds, along_slots, all_earlier}
-use Rattle.heco_plainvec.specs.Gathered.{source, place, name, gathered_gates, gathered_vectors}
+use Rattle.heco_rewrites.proofs.Along.{along_bounds, all_earlier}
+use Rattle.heco_plainvec.specs.Gathered.{gathered_gates, gathered_vectors}
 use Rattle.heco_plainvec.proofs.Leaders.{input_stays}
 use Rattle.heco_plainvec.proofs.Places.{place_inputs, name_itself}
 use Rattle.heco_plainvec.proofs.Known.{known}
-use Rattle.heco_plainvec.proofs.Swept.{Earlier, Before, IsSwept}
-use Rattle.heco_plainvec.proofs.Sweep.{may_stand, AreNext, AreSwept, sweep}
+use Rattle.heco_plainvec.proofs.Swept.{Earlier, IsSwept}
+use Rattle.heco_plainvec.proofs.Sweep.{may_stand, AreSwept, sweep}
 
 -- ---- what a valid circuit has
 pub record Valid (c : Plan) : Type 0 where

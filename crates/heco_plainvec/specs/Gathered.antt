@@ -66,4 +66,10 @@ abbrev pub gathered_vectors : Plan → List (List ℕ)
 gathered_vectors c = c.vectors ++ map (vector c) (chosen c)
 
 unfoldable pub gathered : Plan → Plan
-gathered c = record { preset = c.preset; inputs = c.inputs; vectors = gathered_vectors c; gates = gathered_gates c; outputs = map (output_over (name c)) c.outputs }
+gathered c = record {
+  preset = c.preset;
+  inputs = c.inputs;
+  vectors = gathered_vectors c;
+  gates = gathered_gates c;
+  outputs = map (output_over (name c)) c.outputs;
+}

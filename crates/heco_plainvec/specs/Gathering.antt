@@ -1,6 +1,7 @@
 -- Which multiples of a wire one product by a plain vector replaces, and by which vector: the multiples that only output cells
 -- read, each constant at the slots that are asked of it.
-use Rattle.std.specs.Prelude.{ℕ, ◌+◌, ◌-◌, ◌^◌, ◌≤◌, Bool, true, ◌&&◌, ◌==◌, not, List, [], ◌∷◌, length, map, take, filter, filter_map, flat_map, Option, Some, None, slice_index, nat_le, nat_lt, if◌then◌else◌}
+use Rattle.std.specs.Prelude.{ℕ, ◌+◌, ◌-◌, ◌^◌, ◌≤◌, Bool, true, ◌&&◌, ◌==◌, not, List, [], ◌∷◌, length, map, take, filter}
+use Rattle.std.specs.Prelude.{filter_map, flat_map, Option, Some, None, slice_index, nat_le, nat_lt, if◌then◌else◌}
 use Rattle.std.specs.List.{list_any, range_with_len, enumerate_from}
 use Rattle.heco_nums.specs.Presets.{slots_of}
 use Rattle.heco_noise.specs.Rows.{passes, weighed}

@@ -1,5 +1,5 @@
 -- What gathering keeps of a circuit, but for its meaning.
-use Rattle.std.specs.Prelude.{◌≡◌, ◌≤◌, ◌<◌, ◌+◌, ℕ, List, length, map, slice_index, None}
+use Rattle.std.specs.Prelude.{◌≡◌, ◌≤◌, ◌<◌, ◌+◌, ℕ, length, map, slice_index, None}
 use Rattle.std.specs.List.{count_by}
 use Rattle.heco_circuit.specs.declared.gate.Output.{Output}
 use Rattle.heco_circuit.specs.Needs.{is_relin, needs_relin, needed_turns}

@@ -1,4 +1,5 @@
-ghost use Rattle.std.specs.Prelude.{◌≡◌, ◌<◌, ◌==◌, ◌∷◌, ◌++◌, ℕ, not, false, [], length, map, replicate, slice_index_or, IfOk, OnOk, if◌then◌else◌};
+ghost use Rattle.std.specs.Prelude.{◌≡◌, ◌<◌, ◌==◌, ◌∷◌, ◌++◌, ℕ, not, false, if◌then◌else◌};
+ghost use Rattle.std.specs.Prelude.{[], length, map, replicate, slice_index_or, IfOk, OnOk};
 ghost use Rattle.std.specs.List.{cons_option};
 ghost use Rattle.heco_plainvec.specs.Gathering.{is_read, wires, multiple_where, multiples};
 
@@ -23,7 +24,8 @@ pub fn empties<T: Drop>(alloc: Global, count: usize) -> Result<Vec<List<T>>, Mem
 pub fn put_at<T: Drop>(lists: &mut Vec<List<T>>, at: u32, x: T) -> Result<(), Memory>
     ensures long { OnOk result (length lists.new.items ≡ length lists.old.items) }
     ensures each { OnOk result ((a : ℕ) → a < length lists.old.items
-        → slice_index_or lists.new.items a [] ≡ (if at == a then slice_index_or lists.old.items a [] ++ x ∷ [] else slice_index_or lists.old.items a [])) }
+        → slice_index_or lists.new.items a []
+        ≡ (if at == a then slice_index_or lists.old.items a [] ++ x ∷ [] else slice_index_or lists.old.items a [])) }
 {
     if (at as usize) < lists.len() {
         lists[at as usize].push(x)?;
@@ -41,7 +43,8 @@ fn put_multiple(
     requires { wire < length reads.now }
     ensures long { OnOk result (length groups.new.items ≡ length groups.old.items) }
     ensures each { OnOk result ((a : ℕ) → a < length groups.old.items
-        → slice_index_or groups.new.items a [] ≡ slice_index_or groups.old.items a [] ++ cons_option (multiple_where (not (slice_index_or reads.now wire false)) a wire gate) []) }
+        → slice_index_or groups.new.items a [] ≡ slice_index_or groups.old.items a []
+        ++ cons_option (multiple_where (not (slice_index_or reads.now wire false)) a wire gate) []) }
 {
     match scaled(reads, wire, gate) {
         Some(s) => put_at(groups, s.of, Multiple { wire, by: s.by }),

@@ -2,3 +2,4 @@ pub mod OnePreset
 pub mod CircuitFacts
 pub mod Products
 pub mod Pairs
+pub mod TakenInOrder

@@ -37,7 +37,8 @@ encrypted_inputs p key rows inputs = encrypted_messages p key rows (map (input_m
 abbrev pub inputs_file : Preset → EvalLists → List EncRow → List (List ℕ) → List ℕ
 inputs_file p key rows inputs = messages_file p key rows (map (input_message p) inputs)
 
--- ---- of inputs in two rows: the message is the plaintext whose slots are the values of the one text in the first row and of the other in the second, and then zeros
+-- ---- of inputs in two rows: the message is the plaintext whose slots are the values of the one text in the first row and of the
+-- other in the second, and then zeros
 
 abbrev pub pair_message : Preset → List ℕ → List ℕ → List ℕ
 pair_message p first second = encoded_two p (filled p.slots first) (filled p.slots second)

@@ -20,7 +20,8 @@ IsSourceRefusal text SourceLong = IsNoSource text source.SourceLong
 IsSourceRefusal text (At rule at) = IsNoSource text (source.At rule at)
 IsSourceRefusal text refusal = ⊥
 
--- the text is too long, or this is the first line that breaks a rule of texts and the first rule that it breaks, or else the first of these inputs that no line gave
+-- the text is too long, or this is the first line that breaks a rule of texts and the first rule that it breaks, or else the
+-- first of these inputs that no line gave
 abbrev pub IsTextRefusal : ℕ → List Shape → List ℕ → Refusal → Type 0
 IsTextRefusal t shapes text InputLong = IsNoText t shapes text input.InputLong
 IsTextRefusal t shapes text (InputAt rule line) = IsNoText t shapes text (input.At rule line)

@@ -20,5 +20,7 @@ AreFull id w = (a : ℕ) → a < length w.parts → IsFull id (wire_at w.slots a
 
 abbrev pub WiresAreFull : Type 0
 WiresAreFull =
-    (id : ℕ) (vectors : List (List ℕ)) (start : Wires) (gates : List Gate) → 0 < modulus_of id → list_all (is_vector (modulus_of id) (slots_of id)) vectors ≡ true
-    → all_along (is_gate (modulus_of id) (slots_of id) (length vectors)) with_gate start.parts gates ≡ true → Even start → AreFull id start → AreFull id (along (behind id vectors) start gates)
+    (id : ℕ) (vectors : List (List ℕ)) (start : Wires) (gates : List Gate) → 0 < modulus_of id
+    → list_all (is_vector (modulus_of id) (slots_of id)) vectors ≡ true
+    → all_along (is_gate (modulus_of id) (slots_of id) (length vectors)) with_gate start.parts gates ≡ true → Even start → AreFull id start
+    → AreFull id (along (behind id vectors) start gates)

@@ -18,7 +18,11 @@ pub record Wires : Type 0 where
 
 -- the wires with that of the gate, under the preset of this number and beside these plain vectors
 abbrev pub behind : ℕ → List (List ℕ) → Wires → Gate → Wires
-behind id vectors w g = record { parts = with_gate w.parts g; bounds = with_bound id (weights_of id vectors) w.bounds g; slots = with_wire (modulus_of id) vectors w.slots g }
+behind id vectors w g = record {
+  parts = with_gate w.parts g;
+  bounds = with_bound id (weights_of id vectors) w.bounds g;
+  slots = with_wire (modulus_of id) vectors w.slots g;
+}
 
 -- the wires of the inputs, for these rows
 abbrev pub first_wires : Plan → List (List ℕ) → Wires

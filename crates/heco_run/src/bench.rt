@@ -84,7 +84,8 @@ pub fn make_gate(
     requires parts { (xs : List Ciphertext) → gathered (entry store.now.items) (operands_of gate) ≡ Some xs → length out.old ≡ made_parts gate xs }
     requires out { IsCiphertext e.now.preset.n out.old }
     ensures preset { gates.new.preset ≡ gates.old.preset }
-    ensures made { (vectors : List (List ℕ)) → weighers.now ≡ weighers_of e.now.preset vectors → Some out.new ≡ option_map (made_of e.now.preset (keys_of e.now) vectors gate) (gathered (entry store.now.items) (operands_of gate)) }
+    ensures made { (vectors : List (List ℕ)) → weighers.now ≡ weighers_of e.now.preset vectors
+        → Some out.new ≡ option_map (made_of e.now.preset (keys_of e.now) vectors gate) (gathered (entry store.now.items) (operands_of gate)) }
     ensures shape { IsShaped e.now.preset.n (length out.old) out.new }
 {
     let (first, second) = operands(gate);
@@ -153,7 +154,11 @@ impl Bench {
         ensures answer { IfErr result (λ why. IsStepCause why event (refusal self.old.board.circuit self.old.board.standing event)) }
         ensures legal { OnOk result (Legal self.old.board.circuit self.old.board.standing event) }
         ensures board { OnOk result (self.new.board ≡ stepped self.old.board event) }
-        ensures store { OnOk result (self.new.store.items ≡ store_after self.old.board.circuit (maker (made_of e.now.preset (keys_of e.now) circuit.now.vectors) circuit.now.gates) (record { standing = self.old.board.standing; store = self.old.store.items }) event) }
+        ensures store { OnOk result (self.new.store.items
+            ≡ store_after self.old.board.circuit (maker (made_of e.now.preset (keys_of e.now) circuit.now.vectors) circuit.now.gates) (record {
+              standing = self.old.board.standing;
+              store = self.old.store.items;
+            }) event) }
         ensures err { OnErr result (self.new ≡ self.old) }
         ensures kept { IsWork circuit.now e.now self.new.gates.preset self.new.weighers self.new.board self.new.store.items self.new.room.items }
     {
@@ -189,7 +194,11 @@ impl Bench {
         requires kept { IsWork circuit.now e.now self.old.gates.preset self.old.weighers self.old.board self.old.store.items self.old.room.items }
         requires legal { Legal self.old.board.circuit self.old.board.standing (Finish worker) }
         ensures board { self.new.board ≡ stepped self.old.board (Finish worker) }
-        ensures store { self.new.store.items ≡ store_after self.old.board.circuit (maker (made_of e.now.preset (keys_of e.now) circuit.now.vectors) circuit.now.gates) (record { standing = self.old.board.standing; store = self.old.store.items }) (Finish worker) }
+        ensures store { self.new.store.items
+            ≡ store_after self.old.board.circuit (maker (made_of e.now.preset (keys_of e.now) circuit.now.vectors) circuit.now.gates) (record {
+              standing = self.old.board.standing;
+              store = self.old.store.items;
+            }) (Finish worker) }
         ensures kept { IsWork circuit.now e.now self.new.gates.preset self.new.weighers self.new.board self.new.store.items self.new.room.items }
     {
         let Some(number) = self.board.busy(worker) else {

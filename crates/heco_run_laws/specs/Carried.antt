@@ -59,7 +59,8 @@ pub record AllCarry (p : Preset) (s : List ℤ) (parts bounds : List ℕ) (slots
   pub as_many_messages : length messages ≡ length parts
   pub as_many_wires : length wires ≡ length parts
   pub quiet : (w : ℕ) → w < length parts → row.IsQuiet (slice_index bounds w)
-  pub each : (w : ℕ) → w < length parts → Carries p s (slice_index parts w) (slice_index bounds w) (message_at slots w) (message_at messages w) (ciphertext_at wires w)
+  pub each : (w : ℕ) → w < length parts
+      → Carries p s (slice_index parts w) (slice_index bounds w) (message_at slots w) (message_at messages w) (ciphertext_at wires w)
 
 -- the switch key that the gate takes is one of the secret, with errors within bounds: from s s to relinearise, from the turned s to turn
 abbrev pub HasKey : Preset → List ℤ → SwitchKeys → Gate → Type 0
@@ -79,7 +80,8 @@ IsFresh p s values c = Carries p s 2 (row.fresh p.t p.h p.b) (filled p.slots val
 -- message at most its written bound of noise
 abbrev pub WiresKeepTheirNoise : Type 0
 WiresKeepTheirNoise =
-    (p : Preset) (s : List ℤ) (keys : SwitchKeys) (c : Plan) (messages : List (List ℕ)) (inputs : List Ciphertext) → p.id ≡ c.preset → IsCircuit c → IsSparse p.n p.h s → HaveKeys p s keys c.gates
+    (p : Preset) (s : List ℤ) (keys : SwitchKeys) (c : Plan) (messages : List (List ℕ)) (inputs : List Ciphertext) → p.id ≡ c.preset → IsCircuit c
+    → IsSparse p.n p.h s → HaveKeys p s keys c.gates
     → length messages ≡ length c.inputs → AllZip (IsFreshFor p s) messages inputs
     → AllKeep p s (wire_parts c) (wire_bounds c.preset (weights_of c.preset c.vectors) c.inputs c.gates) (messages_along p c messages) (run_of p keys c inputs)
 
@@ -106,7 +108,8 @@ FitsRow p v = (length v ≤ p.slots) × All (λ x. x < p.t) v
 -- each row of the messages is what the circuit means for its own values, whatever those of the other row
 abbrev pub RowsAreIndependent : Type 0
 RowsAreIndependent =
-    (p : Preset) (c : Plan) (vs ws : List (List ℕ)) → p.id ≡ c.preset → IsCircuit c → length vs ≡ length c.inputs → length ws ≡ length c.inputs → All (FitsRow p) vs → All (FitsRow p) ws
+    (p : Preset) (c : Plan) (vs ws : List (List ℕ)) → p.id ≡ c.preset → IsCircuit c → length vs ≡ length c.inputs → length ws ≡ length c.inputs
+    → All (FitsRow p) vs → All (FitsRow p) ws
     → (map (row_of p first_row) (messages_along p c (two_row_messages p vs ws)) ≡ wires_of c vs)
     × (map (row_of p (second_row p)) (messages_along p c (two_row_messages p vs ws)) ≡ wires_of c ws)
 
@@ -114,9 +117,11 @@ RowsAreIndependent =
 -- message, whose slots are the circuit's meaning, with at most its written bound of noise
 abbrev pub WiresCarryTheirMessages : Type 0
 WiresCarryTheirMessages =
-    (p : Preset) (s : List ℤ) (keys : SwitchKeys) (c : Plan) (rows : List (List ℕ)) (inputs : List Ciphertext) → p.id ≡ c.preset → IsCircuit c → IsSparse p.n p.h s → HaveKeys p s keys c.gates
+    (p : Preset) (s : List ℤ) (keys : SwitchKeys) (c : Plan) (rows : List (List ℕ)) (inputs : List Ciphertext) → p.id ≡ c.preset → IsCircuit c
+    → IsSparse p.n p.h s → HaveKeys p s keys c.gates
     → length rows ≡ length c.inputs → AllZip (IsFresh p s) rows inputs
-    → AllCarry p s (wire_parts c) (wire_bounds c.preset (weights_of c.preset c.vectors) c.inputs c.gates) (wires_of c rows) (messages_of p c rows) (run_of p keys c inputs)
+    → AllCarry p s (wire_parts c) (wire_bounds c.preset (weights_of c.preset c.vectors) c.inputs c.gates) (wires_of c rows) (messages_of p c rows)
+    (run_of p keys c inputs)
 
 -- in the run of a valid circuit by any keys from inputs of two parts, each wire has the parts that the circuit says
 abbrev pub WiresHaveTheirParts : Type 0
@@ -128,8 +133,10 @@ WiresHaveTheirParts =
 pub record IsInOrder (p : Preset) (keys : SwitchKeys) (c : Plan) (inputs wires : List Ciphertext) : Type 0 where
   pub count : length wires ≡ length inputs + length c.gates
   pub first : (w : ℕ) → w < length inputs → ciphertext_at wires w ≡ ciphertext_at inputs w
-  pub next : (g : ℕ) (gate : Gate) → slice_get c.gates g ≡ Some gate → ciphertext_at wires (length inputs + g) ≡ made_by p keys c.vectors (ciphertext_at wires) gate
+  pub next : (g : ℕ) (gate : Gate) → slice_get c.gates g ≡ Some gate
+      → ciphertext_at wires (length inputs + g) ≡ made_by p keys c.vectors (ciphertext_at wires) gate
 
 -- the run of a valid circuit
 abbrev pub RunsAreInOrder : Type 0
-RunsAreInOrder = (p : Preset) (keys : SwitchKeys) (c : Plan) (inputs : List Ciphertext) → IsCircuit c → length inputs ≡ length c.inputs → IsInOrder p keys c inputs (run_of p keys c inputs)
+RunsAreInOrder = (p : Preset) (keys : SwitchKeys) (c : Plan) (inputs : List Ciphertext) → IsCircuit c → length inputs ≡ length c.inputs
+    → IsInOrder p keys c inputs (run_of p keys c inputs)

@@ -18,4 +18,5 @@ switch_keys n c k = keys_among (needs_relin c) (needed_turns c) (circuit_rows n 
 
 -- made from material within bounds, each key that a gate of a valid circuit takes is one of the material's secret
 abbrev pub MadeKeysAreForTheGates : Type 0
-MadeKeysAreForTheGates = (p : Preset) (c : Plan) (k : KeyLists) → IsCircuit c → IsKeyMaterial p.n p.h p.b (needed_keys c) k → HaveKeys p k.s (switch_keys p.n c k) c.gates
+MadeKeysAreForTheGates = (p : Preset) (c : Plan) (k : KeyLists) → IsCircuit c → IsKeyMaterial p.n p.h p.b (needed_keys c) k
+    → HaveKeys p k.s (switch_keys p.n c k) c.gates

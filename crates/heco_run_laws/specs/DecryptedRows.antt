@@ -15,14 +15,16 @@ use Rattle.heco_run_laws.specs.Carried.{FitsRow, IsRow, HaveKeys, IsFreshFor, tw
 -- an encryption of any message, within bounds, is fresh for it
 abbrev pub EncryptionsAreFresh : Type 0
 EncryptionsAreFresh =
-    (p : Preset) (s : List ℤ) (p0 p1 : List ℕ) (u e1 e2 : List ℤ) (m : List ℕ) → IsSparse p.n p.h s → IsPublicKey p.n p.b s p0 p1 → IsSparse p.n p.h u → AreErrors p.n p.b e1
+    (p : Preset) (s : List ℤ) (p0 p1 : List ℕ) (u e1 e2 : List ℤ) (m : List ℕ) → IsSparse p.n p.h s → IsPublicKey p.n p.b s p0 p1 → IsSparse p.n p.h u
+    → AreErrors p.n p.b e1
     → AreErrors p.n p.b e2
     → IsFreshFor p s m (encrypted p p0 p1 u e1 e2 m)
 
 -- where the input messages have these rows of values, filled with zeros, in the row e, each wire decrypts to what it means for them, in that row
 abbrev pub RowsDecryptToTheMeaning : Type 0
 RowsDecryptToTheMeaning =
-    (p : Preset) (e : ℕ) (s : List ℤ) (keys : SwitchKeys) (c : Plan) (messages rows : List (List ℕ)) (inputs : List Ciphertext) → IsRow p e → p.id ≡ c.preset → IsCircuit c
+    (p : Preset) (e : ℕ) (s : List ℤ) (keys : SwitchKeys) (c : Plan) (messages rows : List (List ℕ)) (inputs : List Ciphertext) → IsRow p e
+    → p.id ≡ c.preset → IsCircuit c
     → IsSparse p.n p.h s → HaveKeys p s keys c.gates
     → length messages ≡ length c.inputs → AllZip (IsFreshFor p s) messages inputs → map (row_of p e) messages ≡ map (filled p.slots) rows
     → (w : ℕ) → w < length (wire_parts c) → row_of p e (decrypted p s (ciphertext_at (run_of p keys c inputs) w)) ≡ wire_at (wires_of c rows) w
@@ -30,8 +32,10 @@ RowsDecryptToTheMeaning =
 -- so two rows of values that are encrypted together decrypt each to its own meaning
 abbrev pub TwoRowsDecryptApart : Type 0
 TwoRowsDecryptApart =
-    (p : Preset) (s : List ℤ) (keys : SwitchKeys) (c : Plan) (vs ws : List (List ℕ)) (inputs : List Ciphertext) → p.id ≡ c.preset → IsCircuit c → IsSparse p.n p.h s → HaveKeys p s keys c.gates
-    → length vs ≡ length c.inputs → length ws ≡ length c.inputs → All (FitsRow p) vs → All (FitsRow p) ws → AllZip (IsFreshFor p s) (two_row_messages p vs ws) inputs
+    (p : Preset) (s : List ℤ) (keys : SwitchKeys) (c : Plan) (vs ws : List (List ℕ)) (inputs : List Ciphertext) → p.id ≡ c.preset → IsCircuit c
+    → IsSparse p.n p.h s → HaveKeys p s keys c.gates
+    → length vs ≡ length c.inputs → length ws ≡ length c.inputs → All (FitsRow p) vs → All (FitsRow p) ws
+    → AllZip (IsFreshFor p s) (two_row_messages p vs ws) inputs
     → (w : ℕ) → w < length (wire_parts c)
     → (row_of p first_row (decrypted p s (ciphertext_at (run_of p keys c inputs) w)) ≡ wire_at (wires_of c vs) w)
     × (row_of p (second_row p) (decrypted p s (ciphertext_at (run_of p keys c inputs) w)) ≡ wire_at (wires_of c ws) w)

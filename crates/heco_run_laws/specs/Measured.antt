@@ -31,9 +31,12 @@ measured_noise p s keys c inputs w = noise p s (ciphertext_at (run_of p keys c i
 -- fresh inputs decrypt to their messages, and then each wire is measured at its written bound or less
 abbrev pub MeasuredNoisesKeepToTheirBounds : Type 0
 MeasuredNoisesKeepToTheirBounds =
-    (p : Preset) (s : List ℤ) (keys : SwitchKeys) (c : Plan) (messages : List (List ℕ)) (inputs : List Ciphertext) → p.id ≡ c.preset → IsCircuit c → IsSparse p.n p.h s → HaveKeys p s keys c.gates
+    (p : Preset) (s : List ℤ) (keys : SwitchKeys) (c : Plan) (messages : List (List ℕ)) (inputs : List Ciphertext) → p.id ≡ c.preset → IsCircuit c
+    → IsSparse p.n p.h s → HaveKeys p s keys c.gates
     → length messages ≡ length c.inputs → AllZip (IsFreshFor p s) messages inputs → All (IsMessage p) messages
-    → (map (decrypted p s) inputs ≡ messages) × AllKeep p s (wire_parts c) (wire_bounds c.preset (weights_of c.preset c.vectors) c.inputs c.gates) (measured_messages p s c inputs) (run_of p keys c inputs)
+    → (map (decrypted p s) inputs ≡ messages)
+    × AllKeep p s (wire_parts c) (wire_bounds c.preset (weights_of c.preset c.vectors) c.inputs c.gates) (measured_messages p s c inputs)
+    (run_of p keys c inputs)
 
 -- what is encoded in one row or in two is a message
 abbrev pub EncodingsAreMessages : Type 0

@@ -18,7 +18,8 @@ use Rattle.heco_sample.specs.Summary.{value_line, greatest_bound, summary}
 abbrev pub sample_plan : Plan
 sample_plan = record { reads = []; writes = []; prints = true }
 
--- one circuit of the source, which is good for it and gathered; what the source's execution gives on the drawn values, which is also what decrypting the result of the
+-- one circuit of the source, which is good for it and gathered; what the source's execution gives on the drawn values, which is
+-- also what decrypting the result of the
 -- circuit's run prints; the summary of both, with the circuit's number of gates and greatest bound; and the agents are left where this run leads them
 pub record Samples (agents : Agents) (seed : ℕ) (p : Product) (left : Agents) : Type 0 where
   pub source : Source

@@ -1,5 +1,6 @@
 -- The gates that read a wire, as a chain from the last one down.
-use Rattle.std.specs.Prelude.{◌≡◌, ℕ, zero, suc, ◌+◌, ◌<◌, ◌==◌, List, [], ◌∷◌, length, if◌then◌else◌, slice_get, slice_index, unwrap_or, true, Option, Some, None}
+use Rattle.std.specs.Prelude.{◌≡◌, ℕ, zero, suc, ◌+◌, ◌<◌, ◌==◌, List, [], ◌∷◌, length, if◌then◌else◌, slice_get, slice_index}
+use Rattle.std.specs.Prelude.{unwrap_or, true, Option, Some, None}
 use Rattle.heco_schedules.specs.Rising.{names}
 use Rattle.heco_schedules.specs.Standings.{Wiring, Standing}
 use Rattle.heco_sched.specs.Tallies.{IsKept}

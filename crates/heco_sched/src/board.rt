@@ -40,7 +40,10 @@ impl Model for Board {
 
     ghost view = { λ a. record { circuit = wiring_of a.inputs a.gates.items a.outputs.items; standing = record { stages = a.stages.items; workers = a.workers.items } } };
 
-    ghost invariant = { λ a. IsBoard (wiring_of a.inputs a.gates.items a.outputs.items) (record { stages = a.stages.items; workers = a.workers.items }) a.ready.numbers a.uses.items a.readers.last.items a.readers.firsts.items a.readers.seconds.items a.ready.places };
+    ghost invariant = { λ a. IsBoard (wiring_of a.inputs a.gates.items a.outputs.items) (record {
+      stages = a.stages.items;
+      workers = a.workers.items;
+    }) a.ready.numbers a.uses.items a.readers.last.items a.readers.firsts.items a.readers.seconds.items a.ready.places };
 }
 
 impl Board {

@@ -125,7 +125,8 @@ pub fn count_uses(
     requires reach { (gate wire : ℕ) → names (operands_at (map operands_of gates.now) gate) wire ≡ true → wire < wires }
     requires named { (wire : ℕ) → names outputs.now wire ≡ true → wire < wires }
     ensures count { IfOk result (λ uses. length uses.items ≡ wires) }
-    ensures each { IfOk result (λ uses. (wire : ℕ) → slice_index uses.items wire ≡ times_in outputs.now wire + sum_below (λ gate. times_in (operands_at (map operands_of gates.now) gate) wire) (length gates.now)) }
+    ensures each { IfOk result (λ uses. (wire : ℕ)
+        → slice_index uses.items wire ≡ times_in outputs.now wire + sum_below (λ gate. times_in (operands_at (map operands_of gates.now) gate) wire) (length gates.now)) }
 {
     let mut uses = vec![in alloc; 0; wires]?;
     count_reads(&mut uses, gates);

@@ -31,7 +31,8 @@ pub fn wake(
     requires fits { (g : ℕ) → names ready.old.numbers g ≡ true → g < length gates.now }
     requires room { length gates.now ≤ ready.old.places }
     ensures rising { RisingFrom 0 ready.new.numbers }
-    ensures woken { (g : ℕ) → names ready.new.numbers g ≡ (names ready.old.numbers g || (names (operands_at (map operands_of gates.now) g) wire && gate_ready inputs (map operands_of gates.now) stages.now g)) }
+    ensures woken { (g : ℕ)
+        → names ready.new.numbers g ≡ (names ready.old.numbers g || (names (operands_at (map operands_of gates.now) g) wire && gate_ready inputs (map operands_of gates.now) stages.now g)) }
     ensures room { length gates.now ≤ ready.new.places }
 {
     let mut above = readers.last[wire as usize];

@@ -72,8 +72,10 @@ pub fn slots_of_a_product()
 /// In both rows the slots of what v weighs are the products by v, place by place.
 #[tactic(auto, using(crate::proofs::WeighedSlots::first_weighed, crate::proofs::WeighedSlots::second_weighed))]
 pub fn slots_of_the_weighed()
-    ensures first { (p : Preset) (v a : List ℕ) (j : ℕ) → length v ≡ p.slots → All (λ x. x < p.t) v → j < p.slots → slot_in p first_row (weighed p v a) j ≡ slice_index v j * slot_in p first_row a j % p.t }
-    ensures second { (p : Preset) (v a : List ℕ) (j : ℕ) → length v ≡ p.slots → All (λ x. x < p.t) v → j < p.slots → slot_in p (second_row p) (weighed p v a) j ≡ slice_index v j * slot_in p (second_row p) a j % p.t }
+    ensures first { (p : Preset) (v a : List ℕ) (j : ℕ) → length v ≡ p.slots → All (λ x. x < p.t) v → j < p.slots
+        → slot_in p first_row (weighed p v a) j ≡ slice_index v j * slot_in p first_row a j % p.t }
+    ensures second { (p : Preset) (v a : List ℕ) (j : ℕ) → length v ≡ p.slots → All (λ x. x < p.t) v → j < p.slots
+        → slot_in p (second_row p) (weighed p v a) j ≡ slice_index v j * slot_in p (second_row p) a j % p.t }
 {}
 
 /// In every row, e being odd, the turn by 3^r brings slot j + r to slot j, and the slots go round after N.

@@ -72,7 +72,13 @@ abbrev pub bare_def : Def → Def
 bare_def d = record { at = nowhere; name = bare_ident d.name; params = map bare_ident d.params; value = bare d.value }
 
 abbrev pub bare_source : Source → Source
-bare_source x = record { params = bare_ident x.params; defs = map bare_def x.defs; name = bare_ident x.name; ports = map bare_param x.ports; body = map bare_stmt x.body }
+bare_source x = record {
+  params = bare_ident x.params;
+  defs = map bare_def x.defs;
+  name = bare_ident x.name;
+  ports = map bare_param x.ports;
+  body = map bare_stmt x.body;
+}
 
 -- the same but for the place
 pub record IsLike (t u : Lexeme) : Type 0 where

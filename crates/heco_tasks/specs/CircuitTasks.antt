@@ -61,7 +61,8 @@ keys_plan = record { reads = 1 ∷ 2 ∷ []; writes = 3 ∷ 4 ∷ []; prints = f
 -- the key material is read as that of the circuit, and the keys that are made of it are written
 unfoldable pub material_job : Agents → Preset → Circuit → Job
 material_job agents p c =
-    Read 2 KeyLists (SpellsKeys p (needed_keys c)) (IsKeysRefusal 2 p (needed_keys c)) (λ k. Give (asking_none agents (Stores (two_files (secret_file p k) (evaluation_file p c k)))))
+    Read 2 KeyLists (SpellsKeys p (needed_keys c)) (IsKeysRefusal 2 p (needed_keys c))
+    (λ k. Give (asking_none agents (Stores (two_files (secret_file p k) (evaluation_file p c k)))))
 
 -- ---- encrypt CIR EVA EMAT IN CTS
 
@@ -75,7 +76,8 @@ inputs_job agents p c key rows =
 
 -- before them the material is read, a row for each input
 unfoldable pub encryptions_job : Agents → Preset → Circuit → EvalLists → Job
-encryptions_job agents p c key = Read 3 (List EncRow) (SpellsEncryptions p (length c.inputs)) (IsEncryptionsRefusal 3 p (length c.inputs)) (inputs_job agents p c key)
+encryptions_job agents p c key =
+    Read 3 (List EncRow) (SpellsEncryptions p (length c.inputs)) (IsEncryptionsRefusal 3 p (length c.inputs)) (inputs_job agents p c key)
 
 -- and before it the evaluation key
 unfoldable pub evaluation_job : Agents → Preset → Circuit → Job
@@ -93,7 +95,8 @@ Runs agents p c key inputs product left = Stores (planned 4 (results_file p c ke
 -- the ciphertexts are read as those of the circuit's inputs
 unfoldable pub ciphertexts_job : Agents → Preset → Circuit → EvalLists → Job
 ciphertexts_job agents p c key =
-    Read 3 (List (List (List ℕ))) (SpellsCiphertexts Cts p (length c.inputs)) (IsCiphertextsRefusal 3 Cts p (length c.inputs)) (λ inputs. Give (Runs agents p c key inputs))
+    Read 3 (List (List (List ℕ))) (SpellsCiphertexts Cts p (length c.inputs)) (IsCiphertextsRefusal 3 Cts p (length c.inputs))
+    (λ inputs. Give (Runs agents p c key inputs))
 
 -- before them it is judged whether a key is missing
 unfoldable pub served_job : Agents → Preset → Circuit → EvalLists → Job
@@ -111,7 +114,8 @@ decrypt_plan = record { reads = 1 ∷ 2 ∷ 3 ∷ []; writes = []; prints = true
 -- the ciphertexts are read as those of the outputs' wires, and the text of the outputs is printed
 unfoldable pub result_job : Agents → Preset → Circuit → List ℤ → Job
 result_job agents p c s =
-    Read 3 (List (List (List ℕ))) (SpellsCiphertexts Res p (output_wire_count c)) (IsCiphertextsRefusal 3 Res p (output_wire_count c)) (λ cs. Give (asking_none agents (Prints (outputs_text p c s cs))))
+    Read 3 (List (List (List ℕ))) (SpellsCiphertexts Res p (output_wire_count c)) (IsCiphertextsRefusal 3 Res p (output_wire_count c))
+    (λ cs. Give (asking_none agents (Prints (outputs_text p c s cs))))
 
 -- before them the secret key is read
 unfoldable pub secret_job : Agents → Preset → Circuit → Job

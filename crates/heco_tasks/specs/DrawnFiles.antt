@@ -17,4 +17,5 @@ key_material_file c seed = keys_text (drawn_material c seed)
 
 -- for each input in order
 unfoldable pub encryption_material_file : Circuit → ℕ → List ℕ
-encryption_material_file c seed = encryptions_text (drawn_encryptions (start seed 2) (degree_of c.preset) (weight_of c.preset) (error_of c.preset) (length c.inputs))
+encryption_material_file c seed =
+    encryptions_text (drawn_encryptions (start seed 2) (degree_of c.preset) (weight_of c.preset) (error_of c.preset) (length c.inputs))

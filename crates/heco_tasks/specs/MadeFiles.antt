@@ -14,7 +14,8 @@ use Rattle.heco_jobs.specs.Outsides.{Files}
 use Rattle.heco_jobs.specs.Words.{name_of}
 use Rattle.heco_tasks.specs.CircuitTasks.{run_job}
 
--- the first three words hold a valid circuit, the evaluation key that is made for it of this key material, and these values of its inputs, encrypted with that key
+-- the first three words hold a valid circuit, the evaluation key that is made for it of this key material, and these values of
+-- its inputs, encrypted with that key
 pub record HoldMadeFiles (words : List (List ℕ)) (file : Files) (c : Circuit) (k : KeyLists) (material : List EncRow) (rows : List (List ℕ)) : Type 0 where
   pub runnable : IsRunnable (preset_of c.preset) c k material rows
   pub circuit : file (name_of words 1) ≡ Some (circuit_text c)

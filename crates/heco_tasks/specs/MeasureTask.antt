@@ -27,7 +27,8 @@ measure_plan = record { reads = 1 ∷ 2 ∷ 3 ∷ 4 ∷ []; writes = []; prints 
 -- the ciphertexts are read as those of the circuit's inputs, and the noise of each wire is printed
 unfoldable pub noise_job : Agents → Preset → Circuit → List ℤ → EvalLists → Job
 noise_job agents p c s key =
-    Read 4 (List (List (List ℕ))) (SpellsCiphertexts Cts p (length c.inputs)) (IsCiphertextsRefusal 4 Cts p (length c.inputs)) (λ inputs. Give (asking_none agents (Prints (noise_text p c s key inputs))))
+    Read 4 (List (List (List ℕ))) (SpellsCiphertexts Cts p (length c.inputs)) (IsCiphertextsRefusal 4 Cts p (length c.inputs))
+    (λ inputs. Give (asking_none agents (Prints (noise_text p c s key inputs))))
 
 -- before them it is judged, as in `run`, whether a key is missing
 unfoldable pub measured_served_job : Agents → Preset → Circuit → List ℤ → EvalLists → Job

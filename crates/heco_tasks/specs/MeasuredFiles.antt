@@ -31,7 +31,8 @@ use Rattle.heco_tasks.specs.Running.{HasKeys}
 
 -- ---- whatever the files hold
 
--- CIR is read as this circuit, SEC as this secret, EVA as this evaluation key, which has every key that the circuit needs, and CTS as these ciphertexts of its inputs
+-- CIR is read as this circuit, SEC as this secret, EVA as this evaluation key, which has every key that the circuit needs, and
+-- CTS as these ciphertexts of its inputs
 pub record AreMeasureGiven (words : List (List ℕ)) (file : Files) (c : Circuit) (s : List ℤ) (key : EvalLists) (inputs : List Ciphertext) : Type 0 where
   pub cir : IsReadAs words file 1 Spells c
   pub sec : IsReadAs words file 2 (SpellsSecret (preset_of c.preset)) s
@@ -50,7 +51,8 @@ pub record PrintsMeasured (words : List (List ℕ)) (old new : Outside) : Type 0
 
 -- so it is where the job of `measure` is done
 abbrev pub DoneIsMeasured : Type 0
-DoneIsMeasured = (words : List (List ℕ)) (agents left : Agents) (old new : Outside) → Done words (measure_job agents) left old new → PrintsMeasured words old new
+DoneIsMeasured = (words : List (List ℕ)) (agents left : Agents) (old new : Outside) → Done words (measure_job agents) left old new
+    → PrintsMeasured words old new
 
 -- ---- files of one chain
 
@@ -73,8 +75,10 @@ abbrev pub EncryptedFilesAreOfTheChain : Type 0
 EncryptedFilesAreOfTheChain =
     (words : List (List ℕ)) (file : Files) (c : Circuit) (k : KeyLists) (material : List EncRow) (first second : List (List ℕ))
     → HoldBothKeys words file c k material → length first ≡ length c.inputs → length second ≡ length c.inputs
-    → (file (name_of words 4) ≡ Some (inputs_file (preset_of c.preset) (circuit_key (preset_of c.preset) c k) material first) → HoldChainFiles words file c k material (map (input_message (preset_of c.preset)) first))
-    × (file (name_of words 4) ≡ Some (pairs_file (preset_of c.preset) (circuit_key (preset_of c.preset) c k) material first second) → HoldChainFiles words file c k material (two_row_messages (preset_of c.preset) first second))
+    → (file (name_of words 4) ≡ Some (inputs_file (preset_of c.preset) (circuit_key (preset_of c.preset) c k) material first)
+    → HoldChainFiles words file c k material (map (input_message (preset_of c.preset)) first))
+    × (file (name_of words 4) ≡ Some (pairs_file (preset_of c.preset) (circuit_key (preset_of c.preset) c k) material first second)
+    → HoldChainFiles words file c k material (two_row_messages (preset_of c.preset) first second))
 
 -- what is measured of them
 abbrev pub chain_lines : Circuit → KeyLists → List EncRow → List (List ℕ) → List Measured
@@ -93,8 +97,10 @@ ChainFilesAreReady =
 abbrev pub PrintsChainWithinBounds : List (List ℕ) → Outside → Outside → Type 0
 PrintsChainWithinBounds words old new =
     (c : Circuit) (k : KeyLists) (material : List EncRow) (messages : List (List ℕ)) → HoldChainFiles words old.file c k material messages
-    → (new.taken ≡ old.taken ++ measured_text (chain_lines c k material messages)) × All (λ (m : Measured). m.noise ≤ m.bound) (chain_lines c k material messages)
+    → (new.taken ≡ old.taken ++ measured_text (chain_lines c k material messages))
+    × All (λ (m : Measured). m.noise ≤ m.bound) (chain_lines c k material messages)
 
 -- so it is where the job of `measure` is done
 abbrev pub DoneIsWithinBounds : Type 0
-DoneIsWithinBounds = (words : List (List ℕ)) (agents left : Agents) (old new : Outside) → Done words (measure_job agents) left old new → PrintsChainWithinBounds words old new
+DoneIsWithinBounds = (words : List (List ℕ)) (agents left : Agents) (old new : Outside) → Done words (measure_job agents) left old new
+    → PrintsChainWithinBounds words old new

@@ -24,7 +24,8 @@ plain_plan = record { reads = 1 ∷ 2 ∷ []; writes = []; prints = true }
 
 -- the source is executed, and its outputs are printed
 unfoldable pub outputs_job : Agents → Source → Values → Job
-outputs_job agents s v = Judge Values (AreOutputs s v.rows) (IsExecutionRefusal s v.rows) (λ out. Give (asking_none agents (Prints (output_text (output_shapes s) out.rows))))
+outputs_job agents s v =
+    Judge Values (AreOutputs s v.rows) (IsExecutionRefusal s v.rows) (λ out. Give (asking_none agents (Prints (output_text (output_shapes s) out.rows))))
 
 -- the values are read as those of its inputs
 unfoldable pub values_job : Agents → Source → Job

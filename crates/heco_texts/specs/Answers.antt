@@ -40,7 +40,8 @@ IsMissing given shapes (At rule number) = ⊥
 abbrev pub IsRefused : ℕ → List Shape → List ℕ → InputErr → Type 0
 IsRefused t shapes text InputLong = most_bytes < length text
 IsRefused t shapes text (At rule number) = (length text ≤ most_bytes) × IsFirstBroken t shapes (lines text) rule number
-IsRefused t shapes text (InputMissing which) = (length text ≤ most_bytes) × NoneBroken t shapes (lines text) × (first_missing (given_by (lines text)) shapes ≡ Some which)
+IsRefused t shapes text (InputMissing which) = (length text ≤ most_bytes) × NoneBroken t shapes (lines text)
+    × (first_missing (given_by (lines text)) shapes ≡ Some which)
 IsRefused t shapes text Memory = Unit {0}
 
 -- this answer was given, unless memory ran out

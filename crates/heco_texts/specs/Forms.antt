@@ -27,7 +27,8 @@ may_follow (c ∷ cs) = is_blank c
 pub data AreNumbers : List ℕ → List (List ℕ) → Type 0 where
   nothing : AreNumbers [] []
   blank : {c : ℕ} {cs : List ℕ} {numbers : List (List ℕ)} → is_blank c ≡ true → AreNumbers cs numbers → AreNumbers (c ∷ cs) numbers
-  number : {digits cs : List ℕ} {numbers : List (List ℕ)} → IsNumber digits → may_follow cs ≡ true → AreNumbers cs numbers → AreNumbers (digits ++ cs) (digits ∷ numbers)
+  number : {digits cs : List ℕ} {numbers : List (List ℕ)} → IsNumber digits → may_follow cs ≡ true → AreNumbers cs numbers
+      → AreNumbers (digits ++ cs) (digits ∷ numbers)
 
 -- blanks, a word, blanks, `=`, and numbers
 pub record IsAssignment (line name : List ℕ) (numbers : List (List ℕ)) : Type 0 where

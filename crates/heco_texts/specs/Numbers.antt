@@ -17,7 +17,8 @@ one_more c numbers = (c ∷ []) ∷ numbers
 
 -- the numbers of a text, by its first byte, the bytes behind it and their numbers
 abbrev pub with_byte : ℕ → List ℕ → Option (List (List ℕ)) → Option (List (List ℕ))
-with_byte c cs more = if is_blank c then more else if is_digit c then (if begins_with_digit cs then option_map (longer c) more else option_map (one_more c) more) else None
+with_byte c cs more =
+    if is_blank c then more else if is_digit c then (if begins_with_digit cs then option_map (longer c) more else option_map (one_more c) more) else None
 
 -- the numbers that stand in the text with blanks between, or None where it has anything else
 abbrev pub numbers_of : List ℕ → Option (List (List ℕ))

@@ -1,5 +1,6 @@
 -- The rules of a text of inputs, by its lines.
-use Rattle.std.specs.Prelude.{◌≡◌, ℕ, ◌+◌, ◌<◌, Bool, not, ◌==◌, List, [], ◌∷◌, Option, Some, None, if◌then◌else◌, length, map, take, nat_lt, slice_index_or, is_some, is_none, unwrap_or}
+use Rattle.std.specs.Prelude.{◌≡◌, ℕ, ◌+◌, ◌<◌, Bool, not, ◌==◌, List, [], ◌∷◌, Option, Some, None, if◌then◌else◌, length, map}
+use Rattle.std.specs.Prelude.{take, nat_lt, slice_index_or, is_some, is_none, unwrap_or}
 use Rattle.std.specs.List.{list_all, flat_map, position_from}
 use Rattle.std.specs.Str.{bytes_eq}
 use Rattle.heco_nums.specs.declared.shape.Shape.{Shape}

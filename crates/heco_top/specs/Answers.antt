@@ -98,7 +98,8 @@ module _ (words : List (List ℕ)) where
   -- whatever source and values the two files hold, this is the text of the lists that the execution gives
   abbrev pub IsPlainText : Files → List ℕ → Type 0
   IsPlainText file printed =
-      (source input : List ℕ) (s : Source) (v out : Values) → file (name_of words 1) ≡ Some source → IsSource source s → file (name_of words 2) ≡ Some input → IsInput s input v
+      (source input : List ℕ) (s : Source) (v out : Values) → file (name_of words 1) ≡ Some source → IsSource source s
+      → file (name_of words 2) ≡ Some input → IsInput s input v
       → AreOutputs s v.rows out → printed ≡ output_text (output_shapes s) out.rows
 
   abbrev pub PrintsFor : Option Command → Outside → Outside → Outcome → Type 0

@@ -9,7 +9,8 @@ use Rattle.heco_jobs.specs.Words.{are_distinct}
 use Rattle.heco_exec.specs.ExecTask.{exec_plan, exec_job}
 use Rattle.heco_pair.specs.PairTask.{pair_plan, pair_job}
 use Rattle.heco_sample.specs.SampleTask.{sample_plan, sample_job}
-use Rattle.heco_tasks.specs.CircuitTasks.{show_plan, draw_plan, keys_plan, encrypt_plan, run_plan, decrypt_plan, show_job, draw_job, keys_job, encrypt_job, run_job, decrypt_job}
+use Rattle.heco_tasks.specs.CircuitTasks.{show_plan, draw_plan, keys_plan, encrypt_plan, run_plan, decrypt_plan, show_job}
+use Rattle.heco_tasks.specs.CircuitTasks.{draw_job, keys_job, encrypt_job, run_job, decrypt_job}
 use Rattle.heco_tasks.specs.MeasureTask.{measure_plan, measure_job}
 use Rattle.heco_tasks.specs.SourceTasks.{plain_plan, plain_job, compile_plan, compile_job}
 use Rattle.heco_top.specs.declared.command.Command.{Command}
@@ -48,7 +49,8 @@ keys_of words = None
 
 -- encrypt CIR EVA EMAT IN CTS
 abbrev pub encrypt_of : List (List ℕ) → Option Command
-encrypt_of (circuit ∷ evaluation ∷ material ∷ inputs ∷ ciphertexts ∷ []) = where_distinct (circuit ∷ evaluation ∷ material ∷ inputs ∷ ciphertexts ∷ []) (Some Encrypt)
+encrypt_of (circuit ∷ evaluation ∷ material ∷ inputs ∷ ciphertexts ∷ []) = where_distinct (circuit ∷ evaluation ∷ material ∷ inputs ∷ ciphertexts
+    ∷ []) (Some Encrypt)
 encrypt_of words = None
 
 -- run CIR EVA CTS RES

@@ -94,7 +94,8 @@ impl Transform {
         requires y { ImageFits self.now.depth y.now }
         ensures fits { SumFits self.now.depth sum.new }
         ensures one_more { sum.new.count ≡ sum.old.count + 1 }
-        ensures sum { (s a b : List ℤ) → IsSumOf self.now.depth s sum.old → IsImageOf self.now.depth a x.now → IsImageOf self.now.depth b y.now → IsSumOf self.now.depth (plus (2 ^ self.now.depth) s (times (2 ^ self.now.depth) a b)) sum.new }
+        ensures sum { (s a b : List ℤ) → IsSumOf self.now.depth s sum.old → IsImageOf self.now.depth a x.now → IsImageOf self.now.depth b y.now
+            → IsSumOf self.now.depth (plus (2 ^ self.now.depth) s (times (2 ^ self.now.depth) a b)) sum.new }
     {
         add_terms(
             sum.words.as_mut_slice(),

@@ -75,7 +75,8 @@ impl Transform {
         requires row { HalvesFit self.now.depth row.now }
         ensures fits { SumsFit self.now.depth sums.new }
         ensures one_more { sums.new.low.count ≡ sums.old.low.count + 1 }
-        ensures sums { (S D : List ℤ) (K : List ℕ) → AreSums self.now.depth S sums.old → IsImageOf self.now.depth D digit.now → IsSmall (2 ^ self.now.depth) D → AreHalves self.now.depth K row.now → AreSums self.now.depth (plus (2 ^ self.now.depth) S (times (2 ^ self.now.depth) D (wholes K))) sums.new }
+        ensures sums { (S D : List ℤ) (K : List ℕ) → AreSums self.now.depth S sums.old → IsImageOf self.now.depth D digit.now → IsSmall (2 ^ self.now.depth) D
+            → AreHalves self.now.depth K row.now → AreSums self.now.depth (plus (2 ^ self.now.depth) S (times (2 ^ self.now.depth) D (wholes K))) sums.new }
     {
         self.add_product(&mut sums.low, digit, &row.low);
         self.add_product(&mut sums.high, digit, &row.high);

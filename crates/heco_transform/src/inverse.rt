@@ -111,7 +111,8 @@ fn inverse_even(a: &mut [u64], depth: u32, node: usize, inverses: &[Factor])
     requires node { 0 < node }
     requires inside { 2 ^ depth * node + 2 ^ depth ≤ 2 * length inverses.now }
     requires below { EachIndex a.old (λ k. slice_index a.old k < 2 * P) }
-    ensures value { (t : List ℕ) (b : List ℤ) → RootTree P t → Inverses P t inverses.now → Values P (2 ^ depth) node t b a.old → Same P (2 ^ depth) (wholes a.new) (scale (2 ^ depth) (pos (2 ^ depth)) b) }
+    ensures value { (t : List ℕ) (b : List ℤ) → RootTree P t → Inverses P t inverses.now → Values P (2 ^ depth) node t b a.old
+        → Same P (2 ^ depth) (wholes a.new) (scale (2 ^ depth) (pos (2 ^ depth)) b) }
     ensures below { EachIndex a.new (λ k. slice_index a.new k < 2 ^ depth * (2 * P)) }
 {
     if depth == 0 {
@@ -151,7 +152,8 @@ pub fn inverse(a: &mut [u64], depth: u32, node: usize, inverses: &[Factor])
     requires node { 0 < node }
     requires inside { 2 ^ depth * node + 2 ^ depth ≤ 2 * length inverses.now }
     requires below { EachIndex a.old (λ k. slice_index a.old k < 2 * P) }
-    ensures value { (t : List ℕ) (b : List ℤ) → RootTree P t → Inverses P t inverses.now → Values P (2 ^ depth) node t b a.old → Same P (2 ^ depth) (wholes a.new) (scale (2 ^ depth) (pos (2 ^ depth)) b) }
+    ensures value { (t : List ℕ) (b : List ℤ) → RootTree P t → Inverses P t inverses.now → Values P (2 ^ depth) node t b a.old
+        → Same P (2 ^ depth) (wholes a.new) (scale (2 ^ depth) (pos (2 ^ depth)) b) }
     ensures below { EachIndex a.new (λ k. slice_index a.new k < 2 ^ depth * (2 * P)) }
 {
     if depth % 2 == 0 {

@@ -46,7 +46,8 @@ impl Transform {
         requires sum { SumFits self.now.depth sum.old }
         requires out { length out.old ≡ 2 ^ self.now.depth }
         ensures fits { SumFits self.now.depth sum.new }
-        ensures value { let n = 2 ^ self.now.depth in (a b c d e f : List ℤ) → HasLimbs self.now.depth a b c x.now → HasLimbs self.now.depth d e f y.now → out.new ≡ reduced (2 ^ 64) n (plus n (table n (λ k. pos 0)) (times n a d)) }
+        ensures value { let n = 2 ^ self.now.depth in (a b c d e f : List ℤ) → HasLimbs self.now.depth a b c x.now → HasLimbs self.now.depth d e f y.now
+            → out.new ≡ reduced (2 ^ 64) n (plus n (table n (λ k. pos 0)) (times n a d)) }
     {
         self.clear(sum);
         self.add_product(sum, &x.low, &y.low);
@@ -60,7 +61,8 @@ impl Transform {
         requires sum { SumFits self.now.depth sum.old }
         requires out { length out.old ≡ 2 ^ self.now.depth }
         ensures fits { SumFits self.now.depth sum.new }
-        ensures value { let n = 2 ^ self.now.depth in (a b c d e f : List ℤ) → HasLimbs self.now.depth a b c x.now → HasLimbs self.now.depth d e f y.now → out.new ≡ reduced (2 ^ 64) n (plus n (plus n (table n (λ k. pos 0)) (times n a e)) (times n b d)) }
+        ensures value { let n = 2 ^ self.now.depth in (a b c d e f : List ℤ) → HasLimbs self.now.depth a b c x.now → HasLimbs self.now.depth d e f y.now
+            → out.new ≡ reduced (2 ^ 64) n (plus n (plus n (table n (λ k. pos 0)) (times n a e)) (times n b d)) }
     {
         self.clear(sum);
         self.add_product(sum, &x.low, &y.middle);
@@ -75,7 +77,8 @@ impl Transform {
         requires sum { SumFits self.now.depth sum.old }
         requires out { length out.old ≡ 2 ^ self.now.depth }
         ensures fits { SumFits self.now.depth sum.new }
-        ensures value { let n = 2 ^ self.now.depth in (a b c d e f : List ℤ) → HasLimbs self.now.depth a b c x.now → HasLimbs self.now.depth d e f y.now → out.new ≡ reduced (2 ^ 64) n (plus n (plus n (plus n (table n (λ k. pos 0)) (times n a f)) (times n b e)) (times n c d)) }
+        ensures value { let n = 2 ^ self.now.depth in (a b c d e f : List ℤ) → HasLimbs self.now.depth a b c x.now → HasLimbs self.now.depth d e f y.now
+            → out.new ≡ reduced (2 ^ 64) n (plus n (plus n (plus n (table n (λ k. pos 0)) (times n a f)) (times n b e)) (times n c d)) }
     {
         self.clear(sum);
         self.add_product(sum, &x.low, &y.high);
@@ -124,7 +127,8 @@ impl Transform {
         requires high { length high.old ≡ 2 ^ self.now.depth }
         requires out { length out.old ≡ 2 ^ self.now.depth }
         ensures fits { SumFits self.now.depth sum.new }
-        ensures value { let n = 2 ^ self.now.depth in (a b : List ℕ) → AreLimbs self.now.depth a x.now → AreLimbs self.now.depth b y.now → out.new ≡ reduced (2 ^ 58) n (times n (wholes a) (wholes b)) }
+        ensures value { let n = 2 ^ self.now.depth in (a b : List ℕ) → AreLimbs self.now.depth a x.now → AreLimbs self.now.depth b y.now
+            → out.new ≡ reduced (2 ^ 58) n (times n (wholes a) (wholes b)) }
     {
         self.low_limb(x, y, sum, out);
         self.middle_limb(x, y, sum, middle);

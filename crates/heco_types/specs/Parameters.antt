@@ -31,7 +31,8 @@ module _ {M : Type 0} (report : Report M) where
   of_length (Some len) limit names = counted report len limit true names
 
   abbrev pub of_param : ℕ → ℕ → Param → List Name → M
-  of_param slots number p names = report.next (report.test (site p.name.at p.name.text (parameter number) names)) (of_length p.len (param_limit slots p.output) names)
+  of_param slots number p names =
+      report.next (report.test (site p.name.at p.name.text (parameter number) names)) (of_length p.len (param_limit slots p.output) names)
 
   -- what is told of the parameters from a number on; each is visible after its name
   abbrev pub of_params : ℕ → ℕ → List Param → List Name → M

@@ -6,7 +6,8 @@ use Rattle.heco_nums.specs.Presets.{preset_name, slots_of}
 -- the number of the preset of this name, or 0
 abbrev pub id_named : List ℕ → ℕ
 id_named name =
-    if bytes_eq name (preset_name 1) then 1 else if bytes_eq name (preset_name 2) then 2 else if bytes_eq name (preset_name 3) then 3 else if bytes_eq name (preset_name 4) then 4
+    if bytes_eq name (preset_name 1) then 1 else if bytes_eq name (preset_name 2) then 2
+    else if bytes_eq name (preset_name 3) then 3 else if bytes_eq name (preset_name 4) then 4
     else if bytes_eq name (preset_name 5) then 5 else 0
 
 abbrev pub names_preset : List ℕ → Bool

@@ -51,7 +51,8 @@ module _ {M : Type 0} (report : Report M) where
   -- "int" name "[" len "]" "=" "{" values "}" ";"
   abbrev pub of_int_many : Ident → Num → List Expr → List Name → M
   of_int_many name len values names =
-      report.next (declared name names) (report.next (counted len most (len.value == length values) names) (each report false (map (of_expr report false) values) IntValue names))
+      report.next (declared name names)
+      (report.next (counted len most (len.value == length values) names) (each report false (map (of_expr report false) values) IntValue names))
 
   -- "secret" name [ "=" value ] ";"
   abbrev pub of_secret_one : Ident → Option Expr → List Name → M
@@ -64,12 +65,14 @@ module _ {M : Type 0} (report : Report M) where
   -- name [ "[" index "]" ] "=" value ";"
   abbrev pub of_set : Ident → Option Expr → Expr → List Name → M
   of_set name index value names =
-      report.next (target (is_some index) name names) (report.next (of_maybe index Index names) (of_expr report false value (value_context (visible names name.text)) names))
+      report.next (target (is_some index) name names)
+      (report.next (of_maybe index Index names) (of_expr report false value (value_context (visible names name.text)) names))
 
   -- "for" name "in" low ".." high and what is told of the body, in which the name is visible
   abbrev pub of_loop : Ident → Expr → Expr → (List Name → M) → List Name → M
   of_loop name low high body names =
-      report.next (declared name names) (report.next (of_expr report false low Bound names) (report.next (of_expr report false high Bound names) (body (names ++ only name sort.Counter false))))
+      report.next (declared name names)
+      (report.next (of_expr report false low Bound names) (report.next (of_expr report false high Bound names) (body (names ++ only name sort.Counter false))))
 
   -- what is told of a statement, by what is visible before it, and what is visible after it as well
   pub record Judged : Type 0 where

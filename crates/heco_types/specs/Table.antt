@@ -58,7 +58,8 @@ is_broken rule role found = false
 -- the rules in the order in which they are tried at one place
 abbrev pub table : List Rule
 table =
-    rule.UnknownParams ∷ rule.UnknownName ∷ rule.Redeclared ∷ rule.NotAssignable ∷ rule.Kind ∷ rule.SecretIndex ∷ rule.SecretBound ∷ rule.SecretToPublic ∷ rule.Length ∷ rule.TooNested ∷ []
+    rule.UnknownParams ∷ rule.UnknownName ∷ rule.Redeclared ∷ rule.NotAssignable ∷ rule.Kind ∷ rule.SecretIndex ∷ rule.SecretBound
+    ∷ rule.SecretToPublic ∷ rule.Length ∷ rule.TooNested ∷ []
 
 -- the row of a rule in the table; other rules of reading and those of execution have none
 abbrev pub row : Rule → ℕ

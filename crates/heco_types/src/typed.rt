@@ -43,7 +43,8 @@ impl Model for Typed {
 
     ghost view = { λ t. t.source };
 
-    ghost invariant = { λ t. IsTyped t.source × (preset_name t.preset.id ≡ t.source.params.text) × (t.preset.slots ≡ slots_named t.source.params.text) × (t.inputs ≡ shapes_of false t.source.ports) × (t.outputs ≡ shapes_of true t.source.ports) };
+    ghost invariant = { λ t. IsTyped t.source × (preset_name t.preset.id ≡ t.source.params.text) × (t.preset.slots ≡ slots_named t.source.params.text)
+        × (t.inputs ≡ shapes_of false t.source.ports) × (t.outputs ≡ shapes_of true t.source.ports) };
 }
 
 impl Typed {

@@ -4,7 +4,7 @@ use Rattle.std.specs.List.{flat_map}
 use Rattle.std.proofs.lemmas.Bool.{lt-ltb}
 use Rattle.heco_written.specs.ScalarTerm.{ScalarTerm}
 use Rattle.heco_execution.proofs.Following.{AllLike}
-use Rattle.heco_execution.proofs.Evaluations.{append_like}
+use Rattle.heco_execution.proofs.Likenesses.{append_like}
 use Rattle.heco_ir.specs.declared.dialect.NodeId.{NodeId}
 use Rattle.heco_ir.specs.declared.scalar.SNode.{SNode}
 use Rattle.heco_ir.specs.Values.{all_below, numbers}

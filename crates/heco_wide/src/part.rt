@@ -17,7 +17,8 @@ fn add_crosswise(f: &Transform, sum: &mut ImageSum, a: &Image, b: &Image, c: &Im
     requires d { ImageFits f.now.depth d.now }
     ensures fits { SumFits f.now.depth sum.new }
     ensures two_more { sum.new.count ≡ sum.old.count + 2 }
-    ensures sum { let n = 2 ^ f.now.depth in (s x y z w : List ℤ) → IsSumOf f.now.depth s sum.old → IsImageOf f.now.depth x a.now → IsImageOf f.now.depth y b.now → IsImageOf f.now.depth z c.now → IsImageOf f.now.depth w d.now → IsSumOf f.now.depth (plus n s (plus n (times n x w) (times n y z))) sum.new }
+    ensures sum { let n = 2 ^ f.now.depth in (s x y z w : List ℤ) → IsSumOf f.now.depth s sum.old → IsImageOf f.now.depth x a.now → IsImageOf f.now.depth y b.now
+        → IsImageOf f.now.depth z c.now → IsImageOf f.now.depth w d.now → IsSumOf f.now.depth (plus n s (plus n (times n x w) (times n y z))) sum.new }
 {
     f.add_product(sum, a, d);
     f.add_product(sum, b, c);
@@ -31,7 +32,8 @@ pub fn add_part(f: &Transform, j: u32, x: &LimbImages, y: &LimbImages, sum: &mut
     requires y { ImagesFit f.now.depth y.now }
     ensures fits { SumFits f.now.depth sum.new }
     ensures few { sum.new.count ≤ sum.old.count + 3 }
-    ensures sum { let n = 2 ^ f.now.depth in (s : List ℤ) (a b : Limbs) → IsSumOf f.now.depth s sum.old → AreImages f.now.depth a x.now → AreImages f.now.depth b y.now → IsSumOf f.now.depth (plus n s (limb_part n j a b)) sum.new }
+    ensures sum { let n = 2 ^ f.now.depth in (s : List ℤ) (a b : Limbs) → IsSumOf f.now.depth s sum.old → AreImages f.now.depth a x.now → AreImages f.now.depth b y.now
+        → IsSumOf f.now.depth (plus n s (limb_part n j a b)) sum.new }
 {
     match j {
         0 => f.add_product(sum, &x.low, &y.low),

@@ -25,7 +25,8 @@ fn join_sum(f: &Transform, room: &mut Room)
     requires room { RoomFits f.now.depth room.old }
     requires small { FitsAll (7 * 2 ^ 105) room.old.wide.items }
     ensures room { RoomFits f.now.depth room.new }
-    ensures value { (a : List ℤ) → IsSumOf f.now.depth a room.old.sum → ((k : ℕ) → k < 2 ^ f.now.depth → nat_abs (at a k) ≤ 6 * 2 ^ 48) → (k : ℕ) → k < 2 ^ f.now.depth → int_at room.new.wide.items k ≡ int_at room.old.wide.items k *ℤ pos (2 ^ 19) +ℤ at a k }
+    ensures value { (a : List ℤ) → IsSumOf f.now.depth a room.old.sum → ((k : ℕ) → k < 2 ^ f.now.depth → nat_abs (at a k) ≤ 6 * 2 ^ 48) → (k : ℕ) → k < 2 ^ f.now.depth
+        → int_at room.new.wide.items k ≡ int_at room.old.wide.items k *ℤ pos (2 ^ 19) +ℤ at a k }
 {
     let words = room.words.as_mut_slice();
     let limb = room.limb.as_mut_slice();
@@ -70,7 +71,8 @@ pub fn multiply_both(
     requires y { HasLimbs f.now.depth y.now }
     requires z { HasLimbs f.now.depth z.now }
     ensures room { RoomFits f.now.depth room.new }
-    ensures value { let n = 2 ^ f.now.depth in (a b c d : List ℤ) → HasLimbsOf f.now.depth a x.now → HasLimbsOf f.now.depth b w.now → HasLimbsOf f.now.depth c y.now → HasLimbsOf f.now.depth d z.now → (k : ℕ) → k < n → int_at room.new.wide.items k ≡ times_at n a b k +ℤ times_at n c d k }
+    ensures value { let n = 2 ^ f.now.depth in (a b c d : List ℤ) → HasLimbsOf f.now.depth a x.now → HasLimbsOf f.now.depth b w.now → HasLimbsOf f.now.depth c y.now
+        → HasLimbsOf f.now.depth d z.now → (k : ℕ) → k < n → int_at room.new.wide.items k ≡ times_at n a b k +ℤ times_at n c d k }
 {
     clear_wide(f, room);
     for i in 0..5 {

@@ -52,7 +52,8 @@ impl Tensor {
         requires o2 { length o2.old ≡ self.old.preset.n }
         ensures preset { self.new.preset ≡ self.old.preset }
         ensures first { let n = self.old.preset.n in o0.new ≡ rounded_all n self.old.preset.t (times n (centred n c0.now) (centred n d0.now)) }
-        ensures second { let n = self.old.preset.n in o1.new ≡ rounded_all n self.old.preset.t (plus n (times n (centred n c0.now) (centred n d1.now)) (times n (centred n c1.now) (centred n d0.now))) }
+        ensures second { let n = self.old.preset.n in o1.new
+            ≡ rounded_all n self.old.preset.t (plus n (times n (centred n c0.now) (centred n d1.now)) (times n (centred n c1.now) (centred n d0.now))) }
         ensures third { let n = self.old.preset.n in o2.new ≡ rounded_all n self.old.preset.t (times n (centred n c1.now) (centred n d1.now)) }
     {
         self.multiplier.product(c0, c1, d0, d1, o0, o1, o2);

@@ -119,6 +119,12 @@ weighted_sum : figures 1 (total 1 (times 1 (Number 2) (a 0) ∷ times 1 (Number 
 unfolding power fold_within fold centre_t
 weighted_sum = refl
 
+-- 2 a0, and 3 a1: two gates, where a compiled circuit has one product by a plain vector
+two_multiples : figures 1 (times 1 (Number 2) (a 0) ∷ times 1 (Number 3) (a 1) ∷ [])
+    ≡ record { cost_is = 2; late_cost_is = 2; relinearises = false; turns = []; greatest = 14262 }
+unfolding power fold_within fold centre_t
+two_multiples = refl
+
 -- a chain of squarings
 three_squarings : figures 1 (square 1 (square 1 (square 1 (a 0))) ∷ [])
     ≡ record { cost_is = 6; late_cost_is = 6; relinearises = true; turns = []; greatest = 41913197113166453 }

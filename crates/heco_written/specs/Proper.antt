@@ -11,5 +11,6 @@ abbrev pub IsProper : ℕ → ℕ → ScalarTerm → Type 0
 IsProper modulus slots (Number c) = c < modulus
 IsProper modulus slots (Element a i) = i < slots
 IsProper modulus slots (Sum x y) = IsProper modulus slots x × IsProper modulus slots y × ((is_number x && is_number y) ≡ false)
-IsProper modulus slots (Product x y) = IsProper modulus slots x × IsProper modulus slots y × ((is_number x && is_number y) ≡ false) × ((is_zero x || is_zero y) ≡ false)
+IsProper modulus slots (Product x y) = IsProper modulus slots x × IsProper modulus slots y × ((is_number x && is_number y) ≡ false)
+    × ((is_zero x || is_zero y) ≡ false)
 IsProper modulus slots (Negation x) = IsProper modulus slots x × (is_number x ≡ false)

@@ -1,7 +1,6 @@
 use Rattle.std.proofs.Common.{◌≡◌, ◌++◌, List, [], ◌∷◌, ap, sym, ◌∙◌, get_or, cond, eqb, Bool, true, false}
 use Rattle.std.proofs.lemmas.List.{append-nil}
 use Rattle.std.proofs.lemmas.Result.{on_ok_weaker}
-use Rattle.std.specs.Prelude.{None}
 use Rattle.heco_plainvec.specs.declared.multiple.Asked.{Asked}
 use Rattle.heco_plainvec.specs.Gathering.{multiples, asked_by}
 use Rattle.heco_plainvec.proofs.AskedOne.{asked_one, asks_where}

@@ -1,9 +1,8 @@
-use Rattle.std.proofs.Common.{◌≡◌, ◌<◌, ◌≤◌, ◌+◌, ◌++◌, ◌∷◌, [], ◌∙◌, length, map, ap, sym, arith, get_or, subst, All}
+use Rattle.std.proofs.Common.{◌≡◌, ◌<◌, ◌+◌, ◌++◌, ◌∷◌, [], ◌∙◌, length, map, ap, sym, arith, get_or, subst, All}
 use Rattle.std.specs.List.{range_with_len, cons_option}
 use Rattle.std.specs.Option.{option_map}
 use Rattle.std.proofs.lemmas.List.FromFn.{map-range_with_len_more}
-use Rattle.heco_thrift.specs.Thrift.{bounds_of}
-use Rattle.heco_plainvec.specs.Gathering.{vector, multiples, asked, wires}
+use Rattle.heco_plainvec.specs.Gathering.{vector, multiples, asked}
 use Rattle.heco_plainvec.specs.Gathered.{first_wire}
 use Rattle.heco_plainvec.specs.Finding.{IsAsk, product_at, numbered_product}
 use Rattle.heco_plainvec.proofs.Rows.{length-each, each_at}

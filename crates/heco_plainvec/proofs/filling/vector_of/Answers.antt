@@ -1,4 +1,4 @@
-use Rattle.std.proofs.Common.{◌≡◌, length, replicate, ap, sym, ◌∙◌, cond, get_or, refl}
+use Rattle.std.proofs.Common.{replicate, ap, sym, ◌∙◌, cond, refl}
 use Rattle.std.specs.Prelude.{Some, None}
 use Rattle.heco_plainvec.specs.Gathering.{vector_of}
 use Rattle.heco_plainvec.proofs.Filled.{zeros, IsFilled, one_agrees, one_disagrees}

@@ -1,4 +1,4 @@
-use Rattle.std.proofs.Common.{◌≡◌, ◌∙◌, length, ap, sym, arith}
+use Rattle.std.proofs.Common.{◌∙◌, length, ap, sym}
 use Rattle.heco_plainvec.proofs.Rows.{length-wires}
 use Rattle.heco_plainvec.proofs.ChosenAt.{length-bounds}
 use Rattle.heco_plainvec.proofs.gathering.changes_of.Goals as goal

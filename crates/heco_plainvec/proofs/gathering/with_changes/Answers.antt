@@ -1,4 +1,4 @@
-use Rattle.std.proofs.Common.{◌≡◌, ◌∙◌, sym, subst}
+use Rattle.std.proofs.Common.{◌∙◌, sym, subst}
 use Rattle.heco_circuit.specs.Circuits.{IsCircuit}
 use Rattle.heco_plainvec.proofs.Whole.{valid}
 use Rattle.heco_plainvec.proofs.Valid.{gathered_valid}

@@ -1,8 +1,8 @@
-use Rattle.std.proofs.Common.{◌≡◌, ℕ, ◌<◌, ◌+◌, ◌++◌, List, [], length, map, replicate, ap, sym, ◌∙◌, arith, get_or, not, false, take}
+use Rattle.std.proofs.Common.{◌≡◌, ◌<◌, ◌+◌, [], length, map, ap, sym, ◌∙◌, arith, get_or, take}
 use Rattle.std.proofs.lemmas.List.{length-replicate, get_or-replicate, ext_get_or, take_all}
 use Rattle.std.specs.Prelude.{filter_map}
-use Rattle.std.specs.List.{enumerate_from, cons_option}
-use Rattle.heco_plainvec.specs.Gathering.{is_read, cell_only, wires, multiple_where, multiple_of, multiples}
+use Rattle.std.specs.List.{enumerate_from}
+use Rattle.heco_plainvec.specs.Gathering.{is_read, cell_only, wires, multiple_of, multiples}
 use Rattle.heco_plainvec.proofs.Rows.{length-each, each_at, group_more}
 use Rattle.heco_plainvec.proofs.groups.multiples_of.Goals as goal
 

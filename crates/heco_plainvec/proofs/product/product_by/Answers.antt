@@ -1,6 +1,6 @@
 use Rattle.std.proofs.Common.{◌≡◌, List, ℕ, Bool, true, false, cond, ap, sym, ◌∙◌}
 use Rattle.std.specs.Prelude.{Some, None}
-use Rattle.heco_nums.specs.Presets.{modulus_of, slots_of}
+use Rattle.heco_nums.specs.Presets.{modulus_of}
 use Rattle.heco_circuit.specs.Plans.{is_vector}
 use Rattle.heco_plainvec.specs.Gathering.{agree, vector_of}
 use Rattle.heco_plainvec.proofs.AskedAll.{vector_fits}

@@ -1,4 +1,4 @@
-use Rattle.std.proofs.Common.{◌≡◌, ◌<◌, ◌+◌, ◌||◌, length, map, ap, sym, ◌∙◌, arith, get_or, false}
+use Rattle.std.proofs.Common.{◌||◌, map, ap, sym, ◌∙◌, arith, get_or, false}
 use Rattle.std.proofs.Math.Bool.{or-false}
 use Rattle.std.proofs.lemmas.List.{ext_get_or}
 use Rattle.std.specs.List.{list_any}

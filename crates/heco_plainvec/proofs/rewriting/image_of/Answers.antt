@@ -1,8 +1,6 @@
-use Rattle.std.proofs.Common.{◌≡◌, ◌∙◌, ap, sym, refl, subst}
-use Rattle.std.specs.Prelude.{Some, None, slice_index}
-use Rattle.heco_rewrites.specs.Wires.{over}
+use Rattle.std.proofs.Common.{◌∙◌, ap, sym}
+use Rattle.std.specs.Prelude.{Some}
 use Rattle.heco_circuit.specs.declared.gate.Gate.TheVariants.{Weigh}
-use Rattle.heco_plainvec.specs.Gathered.{gathered_gate}
 use Rattle.heco_plainvec.proofs.Whole.{valid, earlier}
 use Rattle.heco_plainvec.proofs.OneImage.{replaced, unreplaced, weigh_stands, none_stands, same_stands}
 use Rattle.heco_plainvec.proofs.rewriting.image_of.Goals as goal

@@ -1,4 +1,4 @@
-use Rattle.std.proofs.Common.{◌≡◌, ◌∙◌, ◌++◌, ◌∷◌, [], ap, sym}
+use Rattle.std.proofs.Common.{◌∙◌, ◌++◌, ◌∷◌, [], ap, sym}
 use Rattle.heco_plainvec.proofs.NextName.{range_more}
 use Rattle.heco_plainvec.proofs.rewriting.input_names.Goals as goal
 
