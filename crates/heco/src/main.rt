@@ -2,8 +2,10 @@
 #![tactic(auto)]
 
 use heco_outside::{FileStore, OutSink, Sink};
+use heco_peep::{NegPass, Pass, ScalePass, SubPass};
 use heco_sched::{First, Picker};
 use heco_top::{Outcome, heco, refuse_words};
+use std::alloc::AllocError;
 use std::process::ExitCode;
 use std::{env, io};
 
@@ -16,27 +18,30 @@ fn words(rt: &HostRuntime) -> io::Result<Vec<String>> {
     Ok(words)
 }
 
-// What the top call answers over the system's files, where the first of the legal events is picked each time.
-fn answer<O: Sink, E: Sink>(
+// What the top call answers over the system's files. The first of the legal events is picked each time, and over what is
+// compiled three passes run: a sum with a negative becomes a difference, the negative of a negative goes, and a multiple of
+// a multiple becomes one.
+fn done<O: Sink, E: Sink>(
     rt: HostRuntime,
     words: &[String],
     out: &mut O,
     err: &mut E,
-) -> Outcome {
+) -> Result<Outcome, AllocError> {
     let alloc = rt.alloc();
-    let Ok(first) = Box::new(alloc, First) else {
-        return Outcome::Memory;
-    };
-    let mut picker: Box<dyn Picker> = first;
+    let mut picker: Box<dyn Picker> = Box::new(alloc, First)?;
+    let mut passes: Vec<Box<dyn Pass>> = Vec::new(alloc);
+    passes.push(Box::new(alloc, SubPass { done: 0 })?)?;
+    passes.push(Box::new(alloc, NegPass { done: 0 })?)?;
+    passes.push(Box::new(alloc, ScalePass { done: 0 })?)?;
     let mut store = FileStore::new(rt);
-    heco(alloc, words, &mut store, out, err, &mut picker)
+    Ok(heco(alloc, words, &mut store, out, err, &mut picker, &mut passes))
 }
 
 fn main(rt: HostRuntime) -> ExitCode {
     let mut out = OutSink::new(rt.stdout());
     let mut err = OutSink::new(rt.stderr());
     let outcome = match words(&rt) {
-        Ok(words) => answer(rt, words.as_slice(), &mut out, &mut err),
+        Ok(words) => done(rt, words.as_slice(), &mut out, &mut err).unwrap_or(Outcome::Memory),
         Err(error) if error.kind() == io::ErrorKind::OutOfMemory => Outcome::Memory,
         Err(_) => refuse_words(&mut err),
     };

@@ -1,6 +1,7 @@
 use crate::asked::{AskedSink, AskedStore};
 use heco_nums::{Bytes, List};
 use heco_outside::{MemSink, MemStore};
+use heco_peep::Pass;
 use heco_row_steps::words_of;
 use heco_sched::{First, Picker};
 use heco_top::heco;
@@ -42,6 +43,7 @@ fn pieces(alloc: Global, words: &str, store: &mut AskedStore) -> Result<u64, Fai
     let mut out = AskedSink::new(alloc);
     let mut err = MemSink::new(alloc, List::new(alloc));
     let mut picker: Box<dyn Picker> = Box::new(alloc, First)?;
+    let mut passes: Vec<Box<dyn Pass>> = Vec::new(alloc);
     heco(
         alloc,
         words.as_slice(),
@@ -49,6 +51,7 @@ fn pieces(alloc: Global, words: &str, store: &mut AskedStore) -> Result<u64, Fai
         &mut out,
         &mut err,
         &mut picker,
+        &mut passes,
     );
     Ok(out.pieces)
 }

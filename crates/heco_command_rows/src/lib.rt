@@ -12,4 +12,6 @@ mod commands;
 #[cfg(test)]
 mod measured;
 #[cfg(test)]
+mod passed;
+#[cfg(test)]
 mod plain;

@@ -1,10 +1,11 @@
-ghost use Rattle.std.specs.Prelude.{◌≤◌, IfOk, IfErr, OnOk, length};
+ghost use Rattle.std.specs.Prelude.{◌≡◌, ◌≤◌, false, IfOk, IfErr, OnOk, length};
 ghost use Rattle.heco_good.specs.Accepted.{IsAccepted};
 ghost use Rattle.heco_good.specs.Compiled.{IsCircuitOf};
 ghost use Rattle.heco_good.specs.Good.{Good};
 ghost use Rattle.heco_compile.specs.Compiling.{IsRefused};
 ghost use Rattle.heco_compile.specs.Refusals.{of_placing};
 ghost use Rattle.heco_compile.specs.Vectors.{AreVectors};
+ghost use Rattle.heco_thrift.specs.Thrift.{weighs};
 
 use bumpalo::Bump;
 use heco_circuit::Circuit;
@@ -27,6 +28,7 @@ fn placed(
     requires { AreVectors t.now vectors.now.0 vectors.now.1 homes.now }
     ensures accepted { OnOk result (IsAccepted t.now) }
     ensures good { IfOk result (λ c. Good t.now c) }
+    ensures unweighed { IfOk result (λ c. weighs c ≡ false) }
     ensures few { IfOk result (λ c. length c.gates ≤ 20447232) }
     ensures err { IfErr result (λ e. IsRefused t.now (of_placing e)) }
 {

@@ -1,6 +1,8 @@
-ghost use Rattle.std.specs.Prelude.{◌≤◌, IfOk, IfErr, OnOk, length};
+ghost use Rattle.std.specs.Prelude.{◌≤◌, ℕ, List, IfOk, IfErr, OnOk, length};
 ghost use Rattle.heco_good.specs.Accepted.{IsAccepted};
 ghost use Rattle.heco_good.specs.Compiled.{IsCircuitOf};
+ghost use Rattle.heco_peep.specs.NoWorse.{HasFewBytes};
+ghost use Rattle.heco_sources.specs.Sources.{IsSource};
 ghost use Rattle.heco_compile.specs.Compiling.{IsRefused, IsTextRefused, IsCompiled};
 
 use crate::CompileErr;
@@ -22,13 +24,17 @@ fn emptied(alloc: Global, arena: Bump) -> Bump {
 }
 
 /// The circuit of a typed source, or why it has none: the first rule of execution that it breaks, or else the first
-/// output element that is too deep.
+/// output element that is too deep. The names of a source that was read from a text are so few that its circuit's file is
+/// short enough for passes.
 pub fn compile_typed(alloc: Global, t: &Typed) -> Result<Circuit, CompileErr>
     ensures accepted { OnOk result (IsAccepted t.now) }
     ensures circuit { IfOk result (λ c. IsCircuitOf t.now c) }
     ensures few { IfOk result (λ c. length c.gates ≤ 20447232) }
+    ensures short { (text : List ℕ) → IsSource text t.now → IfOk result (λ c. HasFewBytes c) }
     ensures err { IfErr result (IsRefused t.now) }
 {
+    let _ = t.source();
+    let _ = t.outputs();
     let (first, second) = (Bump::new(alloc), Bump::new(alloc));
     let (vectors, homes) = vectors_of(alloc, t, &first, &second)?;
     let first = emptied(alloc, first);
@@ -42,7 +48,5 @@ pub fn compile(alloc: Global, text: &[u8]) -> Result<Circuit, CompileErr>
     ensures err { IfErr result (IsTextRefused text.now) }
 {
     let source = read_source(alloc, text)?;
-    let _ = source.source();
-    let _ = source.outputs();
     compile_typed(alloc, &source)
 }

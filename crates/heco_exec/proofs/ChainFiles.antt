@@ -40,7 +40,7 @@ given_runs source c text kmat emat v k material good input keys words =
     chain.runs source c (preset_of c.preset) text v k material links
 
 pub executed_of_one_chain : ExecutedFilesAreOfOneChain
-executed_of_one_chain words command file file' printed e =
+executed_of_one_chain words command file file' printed handed left e =
     let given = e.given in
     let runs = given_runs e.source e.circuit given.inputs.text given.kmat.text given.emat.text e.values e.keys e.material e.of_source.good given.inputs.fits given.kmat.fits given.emat.fits in
     let many = fit_count (preset_of e.circuit.preset).t e.circuit.inputs e.values.rows runs.fit in

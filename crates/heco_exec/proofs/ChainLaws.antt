@@ -6,7 +6,7 @@ use Rattle.heco_circuit.specs.Circuits.{IsCircuit}
 use Rattle.heco_circuit.specs.Plans.{Plan as Circuit}
 use Rattle.heco_end_to_end.specs.EndToEnd.{IsProvided, IsRunnable, messages_result}
 use Rattle.heco_end_to_end.proofs.DecryptedRuns.{runs_are_read, many_rows}
-use Rattle.heco_good.specs.Compiled.{IsCircuitOf}
+use Rattle.heco_good.specs.Compiled.{IsPassedOf}
 use Rattle.heco_headline.specs.Exec.{text_of}
 use Rattle.heco_headline.proofs.Chain.{plain_run}
 use Rattle.heco_headline.proofs.ExecLaw.{preset_number}
@@ -87,8 +87,8 @@ can_run c k q n material rows valid keys whole many within fit = record {
   fit = fit;
 }
 
-pub executes : (agents left : Agents) (s : Source) (c : Circuit) (v : Values) (k : KeyLists) (material : List EncRow) (p : Product) → IsCircuitOf s c → IsRunnable (preset_of c.preset) c k material v.rows
-    → Yields c k material v.rows p → Leads c agents left → Executes agents s v k material p left
+pub executes : (agents left : Agents) (s : Source) (c : Circuit) (v : Values) (k : KeyLists) (material : List EncRow) (p : Product) → IsPassedOf s agents.passes c left.passes → IsRunnable (preset_of c.preset) c k material v.rows
+    → Yields c k material v.rows p → Leads c agents.picker left.picker → Executes agents s v k material p left
 unfolding text_of
 executes agents left s c v k material p of_source runs yields leads =
     record { circuit = c; of_source = of_source; yields = yields; plain = plain_run s c (preset_of c.preset) v.rows k material of_source.good runs; leads = leads }

@@ -14,7 +14,7 @@ use Rattle.heco_exec.specs.Laws.{DoneIsExecuted}
 use Rattle.heco_exec.proofs.WrittenFiles.{AllHeld, all_held, others_stand}
 
 executed : (words : List (List ℕ)) (agents left : Agents) (file file' : Files) (p : Product) → AreApart words (5 ∷ 6 ∷ 7 ∷ 8 ∷ 9 ∷ []) → Fulfils words (exec_job agents) left file p
-    → SameFiles (after_writes words p.writes file) file' → IsExecuted words file file' (unwrap_or p.text [])
+    → SameFiles (after_writes words p.writes file) file' → IsExecuted words agents.passes left.passes file file' (unwrap_or p.text [])
 unfolding Fulfils exec_job accepted_job inputs_job keys_job encryptions_job files_of text_of
 executed words agents left file file' p apart (s, (src, (u, (accepted, (v, (inputs, (k, (kmat, (rows, (emat, e)))))))))) same =
     let files = files_of e.circuit k rows v.rows in

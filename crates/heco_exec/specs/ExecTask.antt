@@ -2,7 +2,7 @@
 use Rattle.std.specs.Prelude.{ℕ, true, List, [], ◌∷◌, length}
 use Rattle.heco_circuit.specs.Plans.{Plan as Circuit}
 use Rattle.heco_good.specs.Accepted.{IsAccepted}
-use Rattle.heco_good.specs.Compiled.{IsCircuitOf}
+use Rattle.heco_good.specs.Compiled.{IsPassedOf}
 use Rattle.heco_good.specs.Good.{preset_named}
 use Rattle.heco_headline.specs.Exec.{source_keys, text_of}
 use Rattle.heco_headline.specs.Headline.{IsPlainText}
@@ -56,14 +56,14 @@ IsNoEncryptionMaterialOf s text refusal = IsNoEncryptionMaterialIn 4 s text refu
 
 -- ---- what is given
 
--- one of the source's circuits, which is chosen; its files and its text, which is that of the source's execution too; and the
--- agents are left where its run leads them
+-- what the passes make of one of the source's circuits, and how they are left; its files and its text, which is that of the
+-- source's execution too; and the picker is left where its run leads it
 pub record Executes (agents : Agents) (s : Source) (v : Values) (k : KeyLists) (material : List EncRow) (p : Product) (left : Agents) : Type 0 where
   pub circuit : Circuit
-  pub of_source : IsCircuitOf s circuit
+  pub of_source : IsPassedOf s agents.passes circuit left.passes
   pub yields : Yields circuit k material v.rows p
   pub plain : IsPlainText s v.rows (text_of circuit k material v.rows)
-  pub leads : Leads circuit agents left
+  pub leads : Leads circuit agents.picker left.picker
 
 -- ---- the job
 

@@ -3,7 +3,8 @@ use Rattle.std.specs.Prelude.{◌≡◌, ◌≢◌, ℕ, List, [], ◌∷◌, So
 use Rattle.heco_circuit.specs.CircuitFormat.{circuit_text}
 use Rattle.heco_circuit.specs.Plans.{Plan as Circuit}
 use Rattle.heco_good.specs.Accepted.{IsAccepted}
-use Rattle.heco_good.specs.Compiled.{IsCircuitOf}
+use Rattle.heco_good.specs.Compiled.{IsPassedOf}
+use Rattle.heco_peep.specs.Rules.{Handed}
 use Rattle.heco_headline.specs.Headline.{IsPlainText}
 use Rattle.heco_material.specs.KeyLists.{KeyLists}
 use Rattle.heco_material.specs.declared.words.EncRow.{EncRow}
@@ -41,18 +42,19 @@ module _ (words : List (List ℕ)) where
     pub kmat : IsReadAs words file 3 (IsKeyMaterialOf source) keys
     pub emat : IsReadAs words file 4 (IsEncryptionMaterialOf source) material
 
-  -- of what was given: CIR spells a circuit of the source, which is good for it and gathered; SEC and EVA are the keys that are
-  -- made for it of the key material, CTS the inputs that are
-  -- encrypted by EVA and the encryption material, RES the result of the circuit's run on CTS with EVA; all other files stand; and what was printed is what
-  -- decrypting RES with SEC prints, and exactly what the source's execution on the values prints
-  pub record IsExecuted (file file' : Files) (printed : List ℕ) : Type 0 where
+  -- of what was given: CIR spells what the passes make of a circuit of the source, which is good for it and gathered, and that
+  -- is good for it too, and the passes are left so; SEC and EVA are the keys that are made for it of the key material, CTS the
+  -- inputs that are encrypted by EVA and the encryption material, RES the result of the circuit's run on CTS with EVA; all other
+  -- files stand; and what was printed is what decrypting RES with SEC prints, and exactly what the source's execution on the
+  -- values prints
+  pub record IsExecuted (handed left : List Handed) (file file' : Files) (printed : List ℕ) : Type 0 where
     pub source : Source
     pub values : Values
     pub keys : KeyLists
     pub material : List EncRow
     pub given : AreGiven file source values keys material
     pub circuit : Circuit
-    pub of_source : IsCircuitOf source circuit
+    pub of_source : IsPassedOf source handed circuit left
     pub cir : file' (name_of words 5) ≡ Some (circuit_text circuit)
     pub sec : file' (name_of words 6) ≡ Some (secret_file (preset_of circuit.preset) keys)
     pub eva : file' (name_of words 7) ≡ Some (evaluation_file (preset_of circuit.preset) circuit keys)

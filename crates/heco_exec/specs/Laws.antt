@@ -6,6 +6,7 @@ use Rattle.heco_nums.specs.declared.shape.Values.{Values}
 use Rattle.heco_products.specs.PresetRows.{preset_of}
 use Rattle.heco_run_laws.specs.Messages.{input_message}
 use Rattle.heco_syntax.specs.declared.tree.Source.{Source}
+use Rattle.heco_peep.specs.Rules.{Handed}
 use Rattle.heco_jobs.specs.Agents.{Agents}
 use Rattle.heco_jobs.specs.Done.{Done}
 use Rattle.heco_jobs.specs.Laws.{IsClear, HasFiles}
@@ -16,16 +17,16 @@ use Rattle.heco_exec.specs.ExecTask.{exec_job}
 use Rattle.heco_exec.specs.Headline.{AreApart, AreGiven, IsExecuted}
 
 -- standard output grew by a text of which, and of the files, all of the headline holds
-pub record PrintsExecuted (words : List (List ℕ)) (old new : Outside) : Type 0 where
+pub record PrintsExecuted (words : List (List ℕ)) (handed left : List Handed) (old new : Outside) : Type 0 where
   pub text : List ℕ
   pub printed : new.taken ≡ old.taken ++ text
-  pub executed : IsExecuted words old.file new.file text
+  pub executed : IsExecuted words handed left old.file new.file text
 
 -- where the job of `exec` is done and no two of the written words have one name, the headline holds
 abbrev pub DoneIsExecuted : Type 0
 DoneIsExecuted =
     (words : List (List ℕ)) (agents left : Agents) (old new : Outside) → AreApart words (5 ∷ 6 ∷ 7 ∷ 8 ∷ 9 ∷ [])
-    → Done words (exec_job agents) left old new → PrintsExecuted words old new
+    → Done words (exec_job agents) left old new → PrintsExecuted words agents.passes left.passes old new
 
 -- which is so where the nine file words differ
 abbrev pub DistinctAreApart : Type 0
@@ -44,6 +45,7 @@ GivenIsReady =
 -- the circuit, both keys and the encrypted inputs that it has written are files of one chain, so that `measure` prints no noise of them above its bound
 abbrev pub ExecutedFilesAreOfOneChain : Type 0
 ExecutedFilesAreOfOneChain =
-    (words : List (List ℕ)) (command : List ℕ) (file file' : Files) (printed : List ℕ) (e : IsExecuted words file file' printed)
+    (words : List (List ℕ)) (command : List ℕ) (file file' : Files) (printed : List ℕ) (handed left : List Handed)
+    (e : IsExecuted words handed left file file' printed)
     → HoldChainFiles (command ∷ name_of words 5 ∷ name_of words 6 ∷ name_of words 7 ∷ name_of words 8
     ∷ []) file' e.circuit e.keys e.material (map (input_message (preset_of e.circuit.preset)) e.values.rows)

@@ -2,7 +2,7 @@ ghost use Rattle.std.specs.Prelude.{◌≡◌, IfOk, OnOk};
 ghost use Rattle.heco_end_to_end.specs.EndToEnd.{IsRunnable};
 ghost use Rattle.heco_material.specs.KeyLists.{lists_of};
 ghost use Rattle.heco_products.specs.PresetRows.{preset_of};
-ghost use Rattle.heco_jobs.specs.Agents.{agents};
+ghost use Rattle.heco_jobs.specs.Agents.{picking};
 ghost use Rattle.heco_exec.specs.Chain.{AreKeysFor, Yields};
 ghost use Rattle.heco_tasks.specs.Running.{Leads};
 
@@ -30,7 +30,7 @@ pub fn chain_product(
     requires kept { material.now.preset ≡ preset_of circuit.now.preset }
     requires runs { IsRunnable (preset_of circuit.now.preset) circuit.now (lists_of k.now) material.now.rows values.now.rows }
     ensures yields { IfOk result (Yields circuit.now (lists_of k.now) material.now.rows values.now.rows) }
-    ensures leads { OnOk result (Leads circuit.now (agents (rule picker.old) (state picker.old)) (agents (rule picker.new) (state picker.new))) }
+    ensures leads { OnOk result (Leads circuit.now (picking (rule picker.old) (state picker.old)) (picking (rule picker.new) (state picker.new))) }
     ensures rule { rule picker.new ≡ rule picker.old }
 {
     let (secret, key) = made_keys(alloc, circuit, k)?;

@@ -8,7 +8,7 @@ ghost use Rattle.heco_key_files.specs.KeyFiles.{eval_text, lists_of as eval_list
 ghost use Rattle.heco_products.specs.Decrypting.{output_wire_count};
 ghost use Rattle.heco_products.specs.Results.{keys_of, results_file};
 ghost use Rattle.heco_run_laws.specs.Results.{results_of};
-ghost use Rattle.heco_jobs.specs.Agents.{agents};
+ghost use Rattle.heco_jobs.specs.Agents.{picking};
 ghost use Rattle.heco_exec.specs.Chain.{numbered, run_files};
 ghost use Rattle.heco_tasks.specs.Running.{HasKeys, Leads};
 
@@ -55,7 +55,7 @@ fn ran(
     ensures file { IfOk result (λ x. x.1 ≡ results_file key.now.preset circuit.now (eval_lists_of key.now) inputs.items) }
     ensures results { IfOk result (λ x. x.2 ≡ results_of key.now.preset (keys_of (eval_lists_of key.now)) circuit.now inputs.items) }
     ensures ciphertexts { IfOk result (λ x. AreCiphertexts key.now.preset.n (output_wire_count circuit.now) x.2) }
-    ensures leads { OnOk result (Leads circuit.now (agents (rule picker.old) (state picker.old)) (agents (rule picker.new) (state picker.new))) }
+    ensures leads { OnOk result (Leads circuit.now (picking (rule picker.old) (state picker.old)) (picking (rule picker.new) (state picker.new))) }
     ensures rule { rule picker.new ≡ rule picker.old }
 {
     let before = write_cts(alloc, FileKind::Cts, key.preset(), inputs.as_slice())?;
@@ -121,7 +121,7 @@ pub fn run_files(
     ensures writes { IfOk result (λ x. x.0 ≡ numbered which (run_files key.now.preset circuit.now secret.now.places (eval_lists_of key.now) inputs.items)) }
     ensures results { IfOk result (λ x. x.1 ≡ results_of key.now.preset (keys_of (eval_lists_of key.now)) circuit.now inputs.items) }
     ensures ciphertexts { IfOk result (λ x. AreCiphertexts key.now.preset.n (output_wire_count circuit.now) x.1) }
-    ensures leads { OnOk result (Leads circuit.now (agents (rule picker.old) (state picker.old)) (agents (rule picker.new) (state picker.new))) }
+    ensures leads { OnOk result (Leads circuit.now (picking (rule picker.old) (state picker.old)) (picking (rule picker.new) (state picker.new))) }
     ensures rule { rule picker.new ≡ rule picker.old }
 {
     let files = first_files(alloc, circuit, secret, key)?;

@@ -1,5 +1,5 @@
--- A good circuit is good when it is gathered.
-use Rattle.std.proofs.Common.{◌≡◌, ◌∙◌, ℕ, true, List, [], ◌∷◌, length, Ok, refl, sym, ap, subst, arith}
+-- A good circuit is good when it is gathered, and its bounds are low beside the products by plain vectors.
+use Rattle.std.proofs.Common.{◌≡◌, ◌∙◌, ℕ, true, false, List, [], ◌∷◌, length, Ok, refl, sym, ap, subst, arith}
 use Rattle.std.specs.Prelude.{All}
 use Rattle.std.proofs.lemmas.Bool.{eq-eqb}
 use Rattle.std.proofs.lemmas.List.Elements.{All-drop}
@@ -21,10 +21,11 @@ use Rattle.heco_plainvec.proofs.Meaning.{same_meaning}
 use Rattle.heco_plainvec.proofs.NothingMore.{nothing_more}
 use Rattle.heco_plainvec.proofs.Valid.{gathered_valid}
 use Rattle.heco_good.specs.Compiled.{IsCircuitOf}
-use Rattle.heco_good.specs.Good.{Good}
+use Rattle.heco_good.specs.Good.{homes_of, Good}
+use Rattle.heco_good.proofs.LowElsewhere.{low_elsewhere}
 use Rattle.heco_good.proofs.Unchosen.{stays_as_it_is, weighs_where_chosen}
 
-quiet_gates : (c : Plan) → IsCircuit c → All IsQuiet (gate_bounds c)
+pub quiet_gates : (c : Plan) → IsCircuit c → All IsQuiet (gate_bounds c)
 quiet_gates c valid = All-drop IsQuiet (length c.inputs) (bounds_of c) (quiet_law c valid)
 
 is_head : (a : ℕ) (xs ys : List ℕ) → xs ≡ a ∷ ys → has xs a ≡ true
@@ -54,7 +55,7 @@ as_many t [] (row ∷ rows) fit = absurd fit
 as_many t (s ∷ shapes) [] fit = absurd fit
 as_many t (s ∷ shapes) (row ∷ rows) fit = let rest = as_many t shapes rows fit.2 in omega (arith, rest)
 
-module _ (source : Source) (c : Plan) (g : Good source c) (room : HasRoom c) where
+module _ (source : Source) (c : Plan) (g : Good source c) (light : weighs c ≡ false) (room : HasRoom c) where
   valid : IsCircuit (gathered c)
   valid = gathered_valid c g.valid room
 
@@ -75,4 +76,9 @@ module _ (source : Source) (c : Plan) (g : Good source c) (room : HasRoom c) whe
   }
 
   pub gathered_is_good : IsCircuitOf source (gathered c)
-  gathered_is_good = record { good = still_good; nothing_found = λ a. nothing_more c a g.valid }
+  unfolding still_good
+  gathered_is_good = record {
+    good = still_good;
+    nothing_found = λ a. nothing_more c a g.valid;
+    low = low_elsewhere c g.valid (homes_of source g.terms) (subst (λ b. bounds_where b c (homes_of source g.terms)) light g.thrift.bounds);
+  }

@@ -29,7 +29,7 @@ same_text words words' file file' which s s' v v' printed printed' one agree r r
     one_plain_text s' v'.rows printed printed' (subst (λ (x : Values). IsPlainText s' x.rows printed) values (subst (λ x. IsPlainText x v.rows printed) one plain)) plain'
 
 pub calls_print_apart : CallsPrintApart
-calls_print_apart words words' old new old' new' call other agree =
+calls_print_apart words words' handed left handed' left' old new old' new' call other agree =
     let a = call.paired in
     let b = other.paired in
     let one : a.source ≡ b.source = same_read words words' old.file old'.file 1 IsSource one_source a.source b.source a.given.src b.given.src agree in (

@@ -9,7 +9,7 @@ use Rattle.heco_pair.specs.Headline.{IsPaired}
 use Rattle.heco_pair.specs.Laws.{PairedFilesAreOfOneChain}
 
 pub paired_of_one_chain : PairedFilesAreOfOneChain
-paired_of_one_chain words command file file' first_printed second_printed e =
+paired_of_one_chain words command file file' first_printed second_printed handed left e =
     let given = e.given in
     let of_first = given_runs e.source e.circuit given.first_inputs.text given.kmat.text given.emat.text e.first e.keys e.material e.of_source.good given.first_inputs.fits given.kmat.fits given.emat.fits in
     let of_second = given_runs e.source e.circuit given.second_inputs.text given.kmat.text given.emat.text e.second e.keys e.material e.of_source.good given.second_inputs.fits given.kmat.fits given.emat.fits in

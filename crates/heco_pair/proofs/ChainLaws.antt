@@ -4,7 +4,7 @@ use Rattle.heco_circuit.specs.Circuits.{IsCircuit}
 use Rattle.heco_circuit.specs.Plans.{Plan as Circuit}
 use Rattle.heco_exec.proofs.ChainLaws.{can_run}
 use Rattle.heco_exec.specs.Chain.{AreKeysFor}
-use Rattle.heco_good.specs.Compiled.{IsCircuitOf}
+use Rattle.heco_good.specs.Compiled.{IsPassedOf}
 use Rattle.heco_headline.specs.Pair.{CanRunBoth}
 use Rattle.heco_headline.proofs.PairLaw.{first_plain, second_plain}
 use Rattle.heco_jobs.specs.Agents.{Agents}
@@ -38,8 +38,8 @@ can_run_both c k q n material first second valid keys whole many within fit besi
   on_second = can_run c k q n material second valid keys whole many within beside;
 }
 
-pub pairs : (agents left : Agents) (s : Source) (c : Circuit) (v w : Values) (k : KeyLists) (material : List EncRow) (p : Product) → IsCircuitOf s c → CanRunBoth c k material v.rows w.rows
-    → YieldsPair c k material v.rows w.rows p → Leads c agents left → Pairs agents s v w k material p left
+pub pairs : (agents left : Agents) (s : Source) (c : Circuit) (v w : Values) (k : KeyLists) (material : List EncRow) (p : Product) → IsPassedOf s agents.passes c left.passes → CanRunBoth c k material v.rows w.rows
+    → YieldsPair c k material v.rows w.rows p → Leads c agents.picker left.picker → Pairs agents s v w k material p left
 pairs agents left s c v w k material p of_source runs yields leads = record {
   circuit = c;
   of_source = of_source;

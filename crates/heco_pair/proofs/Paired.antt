@@ -2,6 +2,7 @@
 use Rattle.std.proofs.Common.{◌≡◌, ◌∙◌, ap, refl, subst, ℕ, List, [], ◌∷◌, ◌++◌}
 use Rattle.std.specs.Prelude.{unwrap_or}
 use Rattle.heco_headline.specs.Pair.{pair_files, first_text, second_text}
+use Rattle.heco_peep.specs.Rules.{Handed}
 use Rattle.heco_jobs.specs.Agents.{Agents}
 use Rattle.heco_jobs.specs.Done.{Fulfils, after_writes}
 use Rattle.heco_jobs.specs.Outsides.{Files, SameFiles}
@@ -15,14 +16,14 @@ use Rattle.heco_pair.specs.PairTask.{pair_job, accepted_job, first_job, second_j
 use Rattle.heco_pair.specs.Texts.{both_texts}
 
 -- both texts of a product, and what holds of them
-record Both (words : List (List ℕ)) (file file' : Files) (p : Product) : Type 0 where
+record Both (words : List (List ℕ)) (handed left : List Handed) (file file' : Files) (p : Product) : Type 0 where
   first : List ℕ
   second : List ℕ
   text : unwrap_or p.text [] ≡ both_texts first second
-  paired : IsPaired words file file' first second
+  paired : IsPaired words handed left file file' first second
 
 both : (words : List (List ℕ)) (agents left : Agents) (file file' : Files) (p : Product) → AreApart words (6 ∷ 7 ∷ 8 ∷ 9 ∷ 10 ∷ []) → Fulfils words (pair_job agents) left file p
-    → SameFiles (after_writes words p.writes file) file' → Both words file file' p
+    → SameFiles (after_writes words p.writes file) file' → Both words agents.passes left.passes file file' p
 unfolding Fulfils pair_job accepted_job first_job second_job keys_job encryptions_job pair_files first_text second_text
 both words agents left file file' p apart (s, (src, (u, (accepted, (v, (inputs, (w, (beside, (k, (kmat, (rows, (emat, e)))))))))))) same =
     let files = pair_files e.circuit k rows v.rows w.rows in

@@ -3,11 +3,12 @@ use Rattle.std.specs.Prelude.{◌≡◌, ℕ, List, [], ◌∷◌, Some}
 use Rattle.heco_circuit.specs.CircuitFormat.{circuit_text}
 use Rattle.heco_circuit.specs.Plans.{Plan as Circuit}
 use Rattle.heco_good.specs.Accepted.{IsAccepted}
-use Rattle.heco_good.specs.Compiled.{IsCircuitOf}
+use Rattle.heco_good.specs.Compiled.{IsPassedOf}
 use Rattle.heco_headline.specs.Headline.{IsPlainText}
 use Rattle.heco_material.specs.KeyLists.{KeyLists}
 use Rattle.heco_material.specs.declared.words.EncRow.{EncRow}
 use Rattle.heco_nums.specs.declared.shape.Values.{Values}
+use Rattle.heco_peep.specs.Rules.{Handed}
 use Rattle.heco_products.specs.Decrypting.{row_text}
 use Rattle.heco_products.specs.Encrypting.{encrypted_pairs, pairs_file}
 use Rattle.heco_products.specs.KeyProducts.{circuit_key, evaluation_file, secret_file}
@@ -34,12 +35,13 @@ module _ (words : List (List ℕ)) where
     pub kmat : IsReadAs words file 4 (IsKeyMaterialOf source) keys
     pub emat : IsReadAs words file 5 (IsEncryptionMaterialOf source) material
 
-  -- of what was given: CIR spells a circuit of the source, which is good for it and gathered; SEC and EVA are the keys that are
-  -- made for it of the key material, CTS the inputs that are
-  -- encrypted by EVA and the encryption material, the values of IN in the first row and those of IN2 in the second, RES the result of the circuit's run on
-  -- CTS with EVA; all other files stand; and of both texts that were printed the first is what decrypting RES with SEC prints of the first row, and exactly
-  -- what the source's execution on the values of IN prints, and the second is the same of the second row and of IN2
-  pub record IsPaired (file file' : Files) (first_printed second_printed : List ℕ) : Type 0 where
+  -- of what was given: CIR spells what the passes make of a circuit of the source, which is good for it and gathered, and that
+  -- is good for it too, and the passes are left so; SEC and EVA are the keys that are made for it of the key material, CTS the
+  -- inputs that are encrypted by EVA and the encryption material, the values of IN in the first row and those of IN2 in the
+  -- second, RES the result of the circuit's run on CTS with EVA; all other files stand; and of both texts that were printed the
+  -- first is what decrypting RES with SEC prints of the first row, and exactly what the source's execution on the values of IN
+  -- prints, and the second is the same of the second row and of IN2
+  pub record IsPaired (handed left : List Handed) (file file' : Files) (first_printed second_printed : List ℕ) : Type 0 where
     pub source : Source
     pub first : Values
     pub second : Values
@@ -47,7 +49,7 @@ module _ (words : List (List ℕ)) where
     pub material : List EncRow
     pub given : ArePairGiven file source first second keys material
     pub circuit : Circuit
-    pub of_source : IsCircuitOf source circuit
+    pub of_source : IsPassedOf source handed circuit left
     pub cir : file' (name_of words 6) ≡ Some (circuit_text circuit)
     pub sec : file' (name_of words 7) ≡ Some (secret_file (preset_of circuit.preset) keys)
     pub eva : file' (name_of words 8) ≡ Some (evaluation_file (preset_of circuit.preset) circuit keys)

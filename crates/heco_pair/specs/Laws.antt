@@ -6,6 +6,7 @@ use Rattle.heco_nums.specs.declared.shape.Values.{Values}
 use Rattle.heco_products.specs.PresetRows.{preset_of}
 use Rattle.heco_run_laws.specs.Carried.{two_row_messages}
 use Rattle.heco_syntax.specs.declared.tree.Source.{Source}
+use Rattle.heco_peep.specs.Rules.{Handed}
 use Rattle.heco_jobs.specs.Agents.{Agents}
 use Rattle.heco_jobs.specs.Done.{Done}
 use Rattle.heco_jobs.specs.Laws.{IsClear, HasFiles}
@@ -18,17 +19,17 @@ use Rattle.heco_pair.specs.PairTask.{pair_job}
 use Rattle.heco_pair.specs.Texts.{both_texts}
 
 -- standard output grew by two texts with the line of dashes between, of which, and of the files, all of the headline in two rows holds
-pub record PrintsPaired (words : List (List ℕ)) (old new : Outside) : Type 0 where
+pub record PrintsPaired (words : List (List ℕ)) (handed left : List Handed) (old new : Outside) : Type 0 where
   pub first : List ℕ
   pub second : List ℕ
   pub printed : new.taken ≡ old.taken ++ both_texts first second
-  pub paired : IsPaired words old.file new.file first second
+  pub paired : IsPaired words handed left old.file new.file first second
 
 -- where the job of `pair` is done and no two of the written words have one name, the headline in two rows holds
 abbrev pub DoneIsPaired : Type 0
 DoneIsPaired =
     (words : List (List ℕ)) (agents left : Agents) (old new : Outside) → AreApart words (6 ∷ 7 ∷ 8 ∷ 9 ∷ 10 ∷ [])
-    → Done words (pair_job agents) left old new → PrintsPaired words old new
+    → Done words (pair_job agents) left old new → PrintsPaired words agents.passes left.passes old new
 
 -- which is so where the ten file words differ
 abbrev pub DistinctAreApart : Type 0
@@ -46,10 +47,11 @@ GivenIsReady =
     → IsClear words (pair_job agents) file × HasFiles words (pair_job agents) file
 
 -- of two calls that are done: where they agree in SRC and IN they print the same first text, and where they agree in SRC and IN2 the same second text,
--- whatever all other files and the pickers are
+-- whatever all other files, the pickers and the passes are
 abbrev pub CallsPrintApart : Type 0
 CallsPrintApart =
-    (words words' : List (List ℕ)) (old new old' new' : Outside) (call : PrintsPaired words old new) (other : PrintsPaired words' old' new')
+    (words words' : List (List ℕ)) (handed left handed' left' : List Handed) (old new old' new' : Outside)
+    (call : PrintsPaired words handed left old new) (other : PrintsPaired words' handed' left' old' new')
     → old.file (name_of words 1) ≡ old'.file (name_of words' 1)
     → (old.file (name_of words 2) ≡ old'.file (name_of words' 2) → call.first ≡ other.first)
     × (old.file (name_of words 3) ≡ old'.file (name_of words' 3) → call.second ≡ other.second)
@@ -58,6 +60,6 @@ CallsPrintApart =
 abbrev pub PairedFilesAreOfOneChain : Type 0
 PairedFilesAreOfOneChain =
     (words : List (List ℕ)) (command : List ℕ) (file file' : Files)
-    (first_printed second_printed : List ℕ) (e : IsPaired words file file' first_printed second_printed)
+    (first_printed second_printed : List ℕ) (handed left : List Handed) (e : IsPaired words handed left file file' first_printed second_printed)
     → HoldChainFiles (command ∷ name_of words 6 ∷ name_of words 7 ∷ name_of words 8 ∷ name_of words 9
     ∷ []) file' e.circuit e.keys e.material (two_row_messages (preset_of e.circuit.preset) e.first.rows e.second.rows)

@@ -2,7 +2,7 @@
 use Rattle.std.specs.Prelude.{ℕ, true, List, [], ◌∷◌}
 use Rattle.heco_circuit.specs.Plans.{Plan as Circuit}
 use Rattle.heco_good.specs.Accepted.{IsAccepted}
-use Rattle.heco_good.specs.Compiled.{IsCircuitOf}
+use Rattle.heco_good.specs.Compiled.{IsPassedOf}
 use Rattle.heco_headline.specs.Headline.{IsPlainText}
 use Rattle.heco_headline.specs.Pair.{first_text, second_text}
 use Rattle.heco_material.specs.KeyLists.{KeyLists}
@@ -26,15 +26,15 @@ pair_plan = record { reads = 1 ∷ 2 ∷ 3 ∷ 4 ∷ 5 ∷ []; writes = 6 ∷ 7 
 
 -- ---- what is given
 
--- one of the source's circuits, which is chosen; its files and its text, whose parts are those of the source's execution on the values of either row;
--- and the agents are left where its run leads them
+-- what the passes make of one of the source's circuits, and how they are left; its files and its text, whose parts are those of
+-- the source's execution on the values of either row; and the picker is left where its run leads it
 pub record Pairs (agents : Agents) (s : Source) (v w : Values) (k : KeyLists) (material : List EncRow) (p : Product) (left : Agents) : Type 0 where
   pub circuit : Circuit
-  pub of_source : IsCircuitOf s circuit
+  pub of_source : IsPassedOf s agents.passes circuit left.passes
   pub yields : YieldsPair circuit k material v.rows w.rows p
   pub first : IsPlainText s v.rows (first_text circuit k material v.rows w.rows)
   pub second : IsPlainText s w.rows (second_text circuit k material v.rows w.rows)
-  pub leads : Leads circuit agents left
+  pub leads : Leads circuit agents.picker left.picker
 
 -- ---- the job
 

@@ -134,7 +134,7 @@ found_from c k i base (g ∷ gates) h here p e =
         let z : base + suc i ≡ base + 1 + i = omega arith in rw z (later i (base + 1) q e)
     by_stays false t i e later = later i base (place_gone c u t ∙ p) e
 
-found_in : (c : Plan) (i : ℕ) (h : Gate) → slice_get (gathered_gates c) i ≡ Some h → IsFound c i h
+pub found_in : (c : Plan) (i : ℕ) (h : Gate) → slice_get (gathered_gates c) i ≡ Some h → IsFound c i h
 found_in c i h e =
     let z : length c.inputs + 0 ≡ length c.inputs = omega arith in
     let y : 0 + i ≡ i = omega arith in

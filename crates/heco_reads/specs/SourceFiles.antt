@@ -2,7 +2,7 @@
 use Rattle.std.specs.Prelude.{ℕ, List}
 use Rattle.heco_nums.specs.declared.shape.Shape.{Shape}
 use Rattle.heco_sources.specs.Inputs.{modulus_of, input_shapes}
-use Rattle.heco_sources.specs.Sources.{IsRefused as IsNoSource}
+use Rattle.heco_sources.specs.Sources.{IsSource, IsRefused as IsNoSource}
 use Rattle.heco_sources.specs.declared.source.SourceErr.{SourceErr}
 use Rattle.heco_sources.specs.declared.source.SourceErr.TheVariants as source
 use Rattle.heco_syntax.specs.declared.tree.Source.{Source}
@@ -13,6 +13,11 @@ use Rattle.heco_jobs.specs.declared.outcome.Outcome.{Outcome}
 use Rattle.heco_jobs.specs.declared.outcome.Outcome.TheVariants.{Refused, Memory}
 use Rattle.heco_jobs.specs.declared.outcome.Refusal.{Refusal}
 use Rattle.heco_jobs.specs.declared.outcome.Refusal.TheVariants.{SourceLong, At, InputLong, InputAt, InputMissing, SecondLong, SecondAt, SecondMissing}
+
+-- some text spells the source
+pub record HasText (s : Source) : Type 0 where
+  pub text : List ℕ
+  pub is : IsSource text s
 
 -- the text is too long, or this is the first rule of reading that it breaks, or else the first rule of typing
 abbrev pub IsSourceRefusal : List ℕ → Refusal → Type 0

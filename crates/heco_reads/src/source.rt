@@ -1,8 +1,8 @@
-ghost use Rattle.std.specs.Prelude.{◌≡◌};
+ghost use Rattle.std.specs.Prelude.{◌≡◌, IfOk};
 ghost use Rattle.heco_sources.specs.Sources.{IsSource};
 ghost use Rattle.heco_jobs.specs.Stages.{IsThingRead, Judges};
 ghost use Rattle.heco_jobs.specs.Words.{texts};
-ghost use Rattle.heco_reads.specs.SourceFiles.{IsSourceRefusal, source_answer};
+ghost use Rattle.heco_reads.specs.SourceFiles.{HasText, IsSourceRefusal, source_answer};
 
 use heco_jobs::{Outcome, Refusal, read_bytes};
 use heco_outside::Store;
@@ -22,7 +22,8 @@ fn answer(error: SourceErr) -> Outcome
 }
 
 fn judge_source(alloc: Global, text: &[u8]) -> Result<Typed, Outcome>
-    ensures { Judges IsSource IsSourceRefusal text.now result }
+    ensures judged { Judges IsSource IsSourceRefusal text.now result }
+    ensures text { IfOk result HasText }
 {
     match heco_sources::read_source(alloc, text) {
         Ok(typed) => Ok(typed),
@@ -30,14 +31,15 @@ fn judge_source(alloc: Global, text: &[u8]) -> Result<Typed, Outcome>
     }
 }
 
-/// The typed source that this file word holds.
+/// The typed source that this file word holds. Some text spells it, whether or not the store tells which.
 pub fn read_source<S: Store>(
     alloc: Global,
     words: &[String],
     which: u8,
     store: &mut S,
 ) -> Result<Typed, Outcome>
-    ensures { IsThingRead S.Store (texts words.now) which IsSource IsSourceRefusal store.old store.new result }
+    ensures read { IsThingRead S.Store (texts words.now) which IsSource IsSourceRefusal store.old store.new result }
+    ensures text { IfOk result HasText }
 {
     // One byte more than a source may have, so that a longer text is seen as longer.
     let limit = SOURCE_LIMIT as u64 + 1;

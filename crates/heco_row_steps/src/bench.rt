@@ -2,7 +2,9 @@ use crate::counted::Counted;
 use crate::files::{circuits, sink, words_of};
 use crate::pickers::{PickerName, picker_named};
 use crate::text::text_of;
+use crate::watching::Watching;
 use heco_outside::{MemSink, MemStore};
+use heco_peep::{NegPass, Pass, ScalePass, SubPass};
 use heco_sched::{Drawn, First, Last, Picker};
 use heco_top::{Outcome, heco};
 use sha2::{Digest, Sha256};
@@ -11,13 +13,14 @@ use std::cell::Cell;
 use std::rc::Rc;
 use std::test::Fail;
 
-/// Files in memory with both streams and a picker, and how the last command ended.
+/// Files in memory with both streams, a picker, whether the program's passes run, and how the last command ended.
 #[derive(Drop)]
 pub struct Bench {
     store: MemStore,
     out: MemSink,
     err: MemSink,
     picker: PickerName,
+    usual: bool,
     outcome: Outcome,
 }
 
@@ -57,6 +60,7 @@ impl Bench {
             out: sink(alloc, out_fails)?,
             err: sink(alloc, err_fails)?,
             picker: PickerName::First,
+            usual: true,
             outcome: Outcome::Ok,
         })
     }
@@ -154,22 +158,36 @@ impl Bench {
         Err("a file is not as it should be".into())
     }
 
+    // As the program does it.
+    fn by_usual(&mut self, alloc: Global, words: &[String]) -> Result<Outcome, Fail> {
+        let mut picker: Box<dyn Picker> = Box::new(alloc, First)?;
+        let mut passes: Vec<Box<dyn Pass>> = Vec::new(alloc);
+        passes.push(Box::new(alloc, SubPass { done: 0 })?)?;
+        passes.push(Box::new(alloc, NegPass { done: 0 })?)?;
+        passes.push(Box::new(alloc, ScalePass { done: 0 })?)?;
+        let (store, out, err) = (&mut self.store, &mut self.out, &mut self.err);
+        Ok(heco(alloc, words, store, out, err, &mut picker, &mut passes))
+    }
+
     fn by_first(&mut self, alloc: Global, words: &[String]) -> Result<Outcome, Fail> {
         let mut picker: Box<dyn Picker> = Box::new(alloc, First)?;
+        let mut passes: Vec<Box<dyn Pass>> = Vec::new(alloc);
         let (store, out, err) = (&mut self.store, &mut self.out, &mut self.err);
-        Ok(heco(alloc, words, store, out, err, &mut picker))
+        Ok(heco(alloc, words, store, out, err, &mut picker, &mut passes))
     }
 
     fn by_last(&mut self, alloc: Global, words: &[String]) -> Result<Outcome, Fail> {
         let mut picker: Box<dyn Picker> = Box::new(alloc, Last)?;
+        let mut passes: Vec<Box<dyn Pass>> = Vec::new(alloc);
         let (store, out, err) = (&mut self.store, &mut self.out, &mut self.err);
-        Ok(heco(alloc, words, store, out, err, &mut picker))
+        Ok(heco(alloc, words, store, out, err, &mut picker, &mut passes))
     }
 
     fn by_drawn(&mut self, alloc: Global, words: &[String]) -> Result<Outcome, Fail> {
         let mut picker: Box<dyn Picker> = Box::new(alloc, Drawn { state: 7 })?;
+        let mut passes: Vec<Box<dyn Pass>> = Vec::new(alloc);
         let (store, out, err) = (&mut self.store, &mut self.out, &mut self.err);
-        Ok(heco(alloc, words, store, out, err, &mut picker))
+        Ok(heco(alloc, words, store, out, err, &mut picker, &mut passes))
     }
 
     fn by_counted(
@@ -179,12 +197,27 @@ impl Bench {
         calls: Rc<Cell<u32>>,
     ) -> Result<Outcome, Fail> {
         let mut picker: Box<dyn Picker> = Box::new(alloc, Counted { calls })?;
+        let mut passes: Vec<Box<dyn Pass>> = Vec::new(alloc);
         let (store, out, err) = (&mut self.store, &mut self.out, &mut self.err);
-        Ok(heco(alloc, words, store, out, err, &mut picker))
+        Ok(heco(alloc, words, store, out, err, &mut picker, &mut passes))
+    }
+
+    fn by_watched(
+        &mut self,
+        alloc: Global,
+        words: &[String],
+        windows: Rc<Cell<u32>>,
+    ) -> Result<Outcome, Fail> {
+        let mut picker: Box<dyn Picker> = Box::new(alloc, First)?;
+        let mut passes: Vec<Box<dyn Pass>> = Vec::new(alloc);
+        passes.push(Box::new(alloc, Watching { windows })?)?;
+        let (store, out, err) = (&mut self.store, &mut self.out, &mut self.err);
+        Ok(heco(alloc, words, store, out, err, &mut picker, &mut passes))
     }
 
     fn led(&mut self, alloc: Global, words: &[String]) -> Result<Outcome, Fail> {
         match self.picker {
+            PickerName::First if self.usual => self.by_usual(alloc, words),
             PickerName::First => self.by_first(alloc, words),
             PickerName::Last => self.by_last(alloc, words),
             PickerName::Drawn => self.by_drawn(alloc, words),
@@ -212,9 +245,22 @@ impl Bench {
         Ok(())
     }
 
+    /// A command with one pass, which answers nothing and counts in the cell how many windows it is shown.
+    pub fn watched(
+        &mut self,
+        alloc: Global,
+        text: &str,
+        windows: Rc<Cell<u32>>,
+    ) -> Result<(), Fail> {
+        let words = self.next_words(alloc, text)?;
+        self.outcome = self.by_watched(alloc, words.as_slice(), windows)?;
+        Ok(())
+    }
+
     /// Makes a step: `put NAME TEXT`, `hex NAME BYTES`, `zeros NAME LENGTH`, `copy NAME FROM`, `set NAME PLACE BYTES`,
     /// `append NAME FROM COUNT` and `cut NAME LENGTH` make a file; `same NAME OTHER`, `length NAME LENGTH`,
-    /// `digest NAME START` and `absent NAME` must be so; `picker NAME` chooses one; anything else is a command.
+    /// `digest NAME START` and `absent NAME` must be so; `picker NAME` chooses one; `passes none`
+    /// runs none from then on; anything else is a command.
     pub fn step(&mut self, alloc: Global, step: &str) -> Result<(), Fail> {
         let (verb, rest) = step.split_once(' ').unwrap_or((step, ""));
         let (name, rest) = rest.split_once(' ').unwrap_or((rest, ""));
@@ -227,6 +273,10 @@ impl Bench {
             "absent" => self.absent(name),
             "picker" => {
                 self.picker = picker_named(name);
+                Ok(())
+            }
+            "passes" => {
+                self.usual = name != "none";
                 Ok(())
             }
             _ => self.command(alloc, step),

@@ -8,6 +8,7 @@ mod files;
 mod pickers;
 mod row;
 mod text;
+mod watching;
 
 pub use bench::Bench;
 pub use faulty::Faulty;

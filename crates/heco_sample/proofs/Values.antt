@@ -4,7 +4,7 @@ use Rattle.std.specs.Prelude.{decimal}
 use Rattle.heco_circuit.specs.Plans.{Plan as Circuit}
 use Rattle.heco_end_to_end.specs.EndToEnd.{IsRunnable}
 use Rattle.heco_eval.specs.Typed.{outputs_of}
-use Rattle.heco_good.specs.Compiled.{IsCircuitOf}
+use Rattle.heco_good.specs.Compiled.{IsPassedOf}
 use Rattle.heco_good.specs.Good.{Good, modulus}
 use Rattle.heco_headline.proofs.Chain.{plain_run}
 use Rattle.heco_headline.proofs.ExecLaw.{preset_number}
@@ -68,8 +68,8 @@ decrypted_is_plain : (s : Source) (c : Circuit) (seed : ℕ) → Good s c → ru
 unfolding text_of
 decrypted_is_plain s c seed good runs = plain_run s c (preset_of c.preset) (drawn_rows seed) (drawn_material c seed) (drawn_words c seed) good runs
 
-pub samples : (agents left : Agents) (s : Source) (c : Circuit) (seed : ℕ) (plain : List ℕ) (p : Product) → IsSource sample_text s → IsCircuitOf s c → runnable c seed → IsPlainText s (drawn_rows seed) plain
-    → Prints (summary seed (length c.gates) (greatest_bound c) plain (decrypted_text c seed)) p → Leads c agents left → Samples agents seed p left
+pub samples : (agents left : Agents) (s : Source) (c : Circuit) (seed : ℕ) (plain : List ℕ) (p : Product) → IsSource sample_text s → IsPassedOf s agents.passes c left.passes → runnable c seed → IsPlainText s (drawn_rows seed) plain
+    → Prints (summary seed (length c.gates) (greatest_bound c) plain (decrypted_text c seed)) p → Leads c agents.picker left.picker → Samples agents seed p left
 samples agents left s c seed plain p is of_source runs executed prints leads =
     let one = gives_one_value s (drawn_rows seed) is (drawn_fit s is seed) in
     record {

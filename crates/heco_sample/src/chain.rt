@@ -2,7 +2,7 @@ ghost use Rattle.std.specs.Prelude.{◌≡◌, IfOk, OnOk};
 ghost use Rattle.heco_end_to_end.specs.EndToEnd.{IsRunnable};
 ghost use Rattle.heco_exec.specs.Chain.{AreKeysFor};
 ghost use Rattle.heco_headline.specs.Exec.{text_of};
-ghost use Rattle.heco_jobs.specs.Agents.{agents};
+ghost use Rattle.heco_jobs.specs.Agents.{picking};
 ghost use Rattle.heco_material.specs.KeyLists.{lists_of};
 ghost use Rattle.heco_products.specs.PresetRows.{preset_of};
 ghost use Rattle.heco_sample.specs.Drawn.{drawn_rows, drawn_words, decrypted_text};
@@ -33,7 +33,7 @@ fn chain_text(
     requires kept { material.now.preset ≡ preset_of circuit.now.preset }
     requires runs { IsRunnable (preset_of circuit.now.preset) circuit.now (lists_of k.now) material.now.rows values.now.rows }
     ensures text { IfOk result (λ text. text ≡ text_of circuit.now (lists_of k.now) material.now.rows values.now.rows) }
-    ensures leads { OnOk result (Leads circuit.now (agents (rule picker.old) (state picker.old)) (agents (rule picker.new) (state picker.new))) }
+    ensures leads { OnOk result (Leads circuit.now (picking (rule picker.old) (state picker.old)) (picking (rule picker.new) (state picker.new))) }
     ensures rule { rule picker.new ≡ rule picker.old }
 {
     let (secret, key) = made_keys(alloc, circuit, k)?;
@@ -56,7 +56,7 @@ pub fn drawn_text(
     ensures runs { OnOk result (IsRunnable (preset_of circuit.now.preset) circuit.now (drawn_material circuit.now seed) (drawn_words circuit.now seed)
         (drawn_rows seed)) }
     ensures text { IfOk result (λ text. text ≡ decrypted_text circuit.now seed) }
-    ensures leads { OnOk result (Leads circuit.now (agents (rule picker.old) (state picker.old)) (agents (rule picker.new) (state picker.new))) }
+    ensures leads { OnOk result (Leads circuit.now (picking (rule picker.old) (state picker.old)) (picking (rule picker.new) (state picker.new))) }
     ensures rule { rule picker.new ≡ rule picker.old }
 {
     let _ = circuit.preset();

@@ -1,11 +1,13 @@
 //! The job goes in steps, each of which owns what one stage gives and lends it to the next: a function that owned all of
 //! it would have to show of each value, at each later fault, that it is let go.
 
-ghost use Rattle.std.specs.Prelude.{◌≡◌, ◌<◌, ◌^◌, IfOk, OnOk, length};
+ghost use Rattle.std.specs.Prelude.{◌≡◌, ◌<◌, ◌^◌, IfOk, OnOk, List, length, map};
 ghost use Rattle.heco_end_to_end.specs.EndToEnd.{IsRunnable};
-ghost use Rattle.heco_good.specs.Compiled.{IsCircuitOf};
-ghost use Rattle.heco_jobs.specs.Agents.{agents};
+ghost use Rattle.heco_good.specs.Compiled.{IsPassedOf};
+ghost use Rattle.heco_good.specs.Good.{Good};
+ghost use Rattle.heco_jobs.specs.Agents.{agents, picking};
 ghost use Rattle.heco_jobs.specs.Products.{Prints};
+ghost use Rattle.heco_peep.specs.Rules.{Handed};
 ghost use Rattle.heco_products.specs.PresetRows.{preset_of};
 ghost use Rattle.heco_sample.specs.Drawn.{drawn_rows, drawn_words, decrypted_text};
 ghost use Rattle.heco_sample.specs.SampleTask.{Samples};
@@ -19,10 +21,11 @@ ghost use Rattle.heco_texts.specs.Answers.{HaveFit};
 use crate::chain::drawn_text;
 use crate::drawn::values;
 use crate::lines::summary;
-use crate::source::{circuit, plain_text, source};
+use crate::source::{passed, plain_text, source};
 use heco_circuit::Circuit;
 use heco_jobs::{Product, printing};
 use heco_nums::{Inputs, Memory};
+use heco_peep::Pass;
 use heco_sched::Picker;
 use heco_tasks::preset_of;
 use heco_types::Typed;
@@ -42,7 +45,7 @@ fn beside_chain(
     ensures runs { OnOk result (IsRunnable (preset_of circuit.now.preset) circuit.now (drawn_material circuit.now seed) (drawn_words circuit.now seed)
         (drawn_rows seed)) }
     ensures prints { IfOk result (Prints (summary seed (length circuit.now.gates) (greatest_bound circuit.now) plain.now (decrypted_text circuit.now seed))) }
-    ensures leads { OnOk result (Leads circuit.now (agents (rule picker.old) (state picker.old)) (agents (rule picker.new) (state picker.new))) }
+    ensures leads { OnOk result (Leads circuit.now (picking (rule picker.old) (state picker.old)) (picking (rule picker.new) (state picker.new))) }
     ensures rule { rule picker.new ≡ rule picker.old }
 {
     let decrypted = drawn_text(alloc, circuit, seed, values, picker)?;
@@ -60,9 +63,10 @@ fn of_values(
     picker: &mut Box<dyn Picker>,
 ) -> Result<Product, Memory>
     requires is { IsSource sample_text typed.now }
-    requires circuit { IsCircuitOf typed.now circuit.now }
+    requires good { Good typed.now circuit.now }
     requires rows { values.now.rows ≡ drawn_rows seed }
-    ensures samples { IfOk result (λ p. Samples (agents (rule picker.old) (state picker.old)) seed p (agents (rule picker.new) (state picker.new))) }
+    ensures samples { (handed left : List Handed) → IsPassedOf typed.now handed circuit.now left → IfOk result (λ p.
+        Samples (agents (picking (rule picker.old) (state picker.old)) handed) seed p (agents (picking (rule picker.new) (state picker.new)) left)) }
     ensures rule { rule picker.new ≡ rule picker.old }
 {
     let plain = plain_text(alloc, typed, values)?;
@@ -79,26 +83,30 @@ fn of_circuit(
     picker: &mut Box<dyn Picker>,
 ) -> Result<Product, Memory>
     requires is { IsSource sample_text typed.now }
-    requires circuit { IsCircuitOf typed.now circuit.now }
-    ensures samples { IfOk result (λ p. Samples (agents (rule picker.old) (state picker.old)) seed p (agents (rule picker.new) (state picker.new))) }
+    requires good { Good typed.now circuit.now }
+    ensures samples { (handed left : List Handed) → IsPassedOf typed.now handed circuit.now left → IfOk result (λ p.
+        Samples (agents (picking (rule picker.old) (state picker.old)) handed) seed p (agents (picking (rule picker.new) (state picker.new)) left)) }
     ensures rule { rule picker.new ≡ rule picker.old }
 {
     let values = values(alloc, preset_of(circuit), seed)?;
     of_values(alloc, seed, typed, circuit, &values, picker)
 }
 
-// A circuit of the source, and then all that is made with it.
+// What the passes make of the source's circuit, and then all that is made with it.
 fn of_source(
     alloc: Global,
     seed: u64,
     typed: &Typed,
     picker: &mut Box<dyn Picker>,
+    passes: &mut Vec<Box<dyn Pass>>,
 ) -> Result<Product, Memory>
     requires is { IsSource sample_text typed.now }
-    ensures samples { IfOk result (λ p. Samples (agents (rule picker.old) (state picker.old)) seed p (agents (rule picker.new) (state picker.new))) }
+    ensures samples { IfOk result (λ p. Samples (agents (picking (rule picker.old) (state picker.old)) (map (λ b. handed b) passes.old.items)) seed p
+        (agents (picking (rule picker.new) (state picker.new)) (map (λ b. handed b) passes.new.items))) }
     ensures rule { rule picker.new ≡ rule picker.old }
+    ensures rules { map (λ b. (handed b).rule) passes.new.items ≡ map (λ b. (handed b).rule) passes.old.items }
 {
-    let circuit = circuit(alloc, typed)?;
+    let circuit = passed(alloc, typed, passes)?;
     of_circuit(alloc, seed, typed, &circuit, picker)
 }
 
@@ -109,11 +117,14 @@ pub fn sample_product(
     alloc: Global,
     seed: u64,
     picker: &mut Box<dyn Picker>,
+    passes: &mut Vec<Box<dyn Pass>>,
 ) -> Result<Product, Memory>
     requires seed { seed < 2 ^ 64 }
-    ensures samples { IfOk result (λ p. Samples (agents (rule picker.old) (state picker.old)) seed p (agents (rule picker.new) (state picker.new))) }
+    ensures samples { IfOk result (λ p. Samples (agents (picking (rule picker.old) (state picker.old)) (map (λ b. handed b) passes.old.items)) seed p
+        (agents (picking (rule picker.new) (state picker.new)) (map (λ b. handed b) passes.new.items))) }
     ensures rule { rule picker.new ≡ rule picker.old }
+    ensures rules { map (λ b. (handed b).rule) passes.new.items ≡ map (λ b. (handed b).rule) passes.old.items }
 {
     let typed = source(alloc)?;
-    of_source(alloc, seed, &typed, picker)
+    of_source(alloc, seed, &typed, picker, passes)
 }

@@ -1,10 +1,11 @@
 //! The source of `sample`, its circuit and its execution: nothing refuses them, so that memory alone may be wanting.
 
-ghost use Rattle.std.specs.Prelude.{◌≡◌, IfOk, Ok, length};
+ghost use Rattle.std.specs.Prelude.{◌≡◌, IfOk, Ok, length, map};
 ghost use Rattle.heco_eval.specs.Typed.{outputs_of};
-ghost use Rattle.heco_good.specs.Compiled.{IsCircuitOf};
+ghost use Rattle.heco_good.specs.Compiled.{IsCircuitOf, IsPassedOf};
 ghost use Rattle.heco_good.specs.Good.{modulus};
 ghost use Rattle.heco_headline.specs.Headline.{IsPlainText};
+ghost use Rattle.heco_peep.specs.NoWorse.{HasFewBytes};
 ghost use Rattle.heco_sample_source.specs.SampleText.{sample_text};
 ghost use Rattle.heco_sources.specs.Inputs.{input_shapes, output_shapes};
 ghost use Rattle.heco_sources.specs.Sources.{IsSource};
@@ -14,7 +15,9 @@ use heco_circuit::Circuit;
 use heco_compile::{CompileErr, compile_typed};
 use heco_eval::{EvalErr, plain};
 use heco_files::print_outputs;
+use heco_good::passed_circuits_are_good;
 use heco_nums::{Bytes, Inputs, Memory, Outputs};
+use heco_peep::{Pass, run_passes};
 use heco_sources::{SourceErr, read_source};
 use heco_types::Typed;
 use std::alloc::Global;
@@ -60,15 +63,31 @@ pub fn source(alloc: Global) -> Result<Typed, Memory>
     }
 }
 
-/// The circuit that it is compiled to.
-pub fn circuit(alloc: Global, typed: &Typed) -> Result<Circuit, Memory>
+// The circuit that it is compiled to.
+fn circuit(alloc: Global, typed: &Typed) -> Result<Circuit, Memory>
     requires { IsSource sample_text typed.now }
-    ensures { IfOk result (λ c. IsCircuitOf typed.now c) }
+    ensures circuit { IfOk result (λ c. IsCircuitOf typed.now c) }
+    ensures short { IfOk result HasFewBytes }
 {
     match compile_typed(alloc, typed) {
         Ok(circuit) => Ok(circuit),
         Err(error) => Err(not_compiled(error)),
     }
+}
+
+/// What the passes make of the circuit that it is compiled to.
+pub fn passed(
+    alloc: Global,
+    typed: &Typed,
+    passes: &mut Vec<Box<dyn Pass>>,
+) -> Result<Circuit, Memory>
+    requires { IsSource sample_text typed.now }
+    ensures passed { IfOk result (λ c. IsPassedOf typed.now (map (λ b. handed b) passes.old.items) c (map (λ b. handed b) passes.new.items)) }
+    ensures rules { map (λ b. (handed b).rule) passes.new.items ≡ map (λ b. (handed b).rule) passes.old.items }
+{
+    let circuit = circuit(alloc, typed)?;
+    passed_circuits_are_good();
+    run_passes(alloc, circuit, passes)
 }
 
 fn executed(alloc: Global, typed: &Typed, values: &Inputs) -> Result<Outputs, Memory>

@@ -40,7 +40,7 @@ module _ (agents : Agents) where
 
   pub plans_compile : Plans (compile_job agents) compile_plan.reads compile_plan
   unfolding Plans compile_job accepted_job
-  plans_compile = (refl, (λ s u p left h. fits_store compile_plan _ p refl refl h.0.stores))
+  plans_compile = (refl, (λ s u p left h. fits_store compile_plan _ p refl refl h.stores))
 
   pub tells_compile : Tells (compile_job agents)
   unfolding Tells compile_job accepted_job

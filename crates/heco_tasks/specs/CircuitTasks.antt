@@ -1,5 +1,5 @@
 -- What is done with a circuit: the plan and the job of each command that reads one first.
-use Rattle.std.specs.Prelude.{ℕ, true, false, List, [], ◌∷◌, length, ℤ}
+use Rattle.std.specs.Prelude.{◌≡◌, ℕ, true, false, List, [], ◌∷◌, length, ℤ}
 use Rattle.heco_ciphertext_files.specs.declared.kind.FileKind.TheVariants.{Cts, Res}
 use Rattle.heco_circuit.specs.CircuitFile.{Spells}
 use Rattle.heco_circuit.specs.Needs.{needed_keys}
@@ -88,9 +88,10 @@ evaluation_job agents p c = Read 2 EvalLists (SpellsEvaluation p) (IsEvaluationR
 abbrev pub run_plan : Plan
 run_plan = record { reads = 1 ∷ 2 ∷ 3 ∷ []; writes = 4 ∷ []; prints = false }
 
--- the file of the circuit's result from these inputs is written, and the picker is left as a run leaves it
+-- the file of the circuit's result from these inputs is written, the picker is left as a run leaves it, and the passes as they were
 abbrev pub Runs : Agents → Preset → Circuit → EvalLists → List (List (List ℕ)) → Product → Agents → Type 0
-Runs agents p c key inputs product left = Stores (planned 4 (results_file p c key inputs) ∷ []) product × Leads c agents left
+Runs agents p c key inputs product left = Stores (planned 4 (results_file p c key inputs) ∷ []) product
+    × (Leads c agents.picker left.picker × (left.passes ≡ agents.passes))
 
 -- the ciphertexts are read as those of the circuit's inputs
 unfoldable pub ciphertexts_job : Agents → Preset → Circuit → EvalLists → Job

@@ -9,7 +9,7 @@ use Rattle.heco_run.specs.Results.{IsRun}
 use Rattle.heco_run.specs.declared.error.RunErr.{RunErr}
 use Rattle.heco_run.specs.declared.error.RunErr.TheVariants as opening
 use Rattle.heco_schedules.specs.declared.event.Event.{Event}
-use Rattle.heco_jobs.specs.Agents.{Agents}
+use Rattle.heco_jobs.specs.Agents.{Picking}
 use Rattle.heco_jobs.specs.declared.outcome.Outcome.{Outcome}
 use Rattle.heco_jobs.specs.declared.outcome.Outcome.TheVariants.{Refused, Memory}
 use Rattle.heco_jobs.specs.declared.outcome.Refusal.{Refusal}
@@ -29,10 +29,10 @@ abbrev pub IsKeyRefusal : Circuit → EvalLists → Refusal → Type 0
 IsKeyRefusal c e refusal = key_refusal c e ≡ Some refusal
 
 -- the picker is as a run of the circuit leaves it: its events were picked one after the other, and its rule stayed
-pub record Leads (c : Circuit) (agents left : Agents) : Type 0 where
+pub record Leads (c : Circuit) (picker left : Picking) : Type 0 where
   pub events : List Event
-  pub is_run : IsRun agents.rule c agents.state events left.state
-  pub rule : left.rule ≡ agents.rule
+  pub is_run : IsRun picker.rule c picker.state events left.state
+  pub rule : left.rule ≡ picker.rule
 
 -- what an error of a run is answered with; the ciphertexts stand in this word
 abbrev pub run_answer : RunErr → Outcome

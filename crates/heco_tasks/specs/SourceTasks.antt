@@ -1,9 +1,9 @@
 -- What is done with a source: the plan and the job of each command that reads one first.
-use Rattle.std.specs.Prelude.{ℕ, true, false, List, [], ◌∷◌}
+use Rattle.std.specs.Prelude.{◌≡◌, ℕ, true, false, List, [], ◌∷◌}
 use Rattle.heco_circuit.specs.CircuitFormat.{circuit_text}
 use Rattle.heco_circuit.specs.Plans.{Plan as Circuit}
 use Rattle.heco_good.specs.Accepted.{IsAccepted}
-use Rattle.heco_good.specs.Compiled.{IsCircuitOf}
+use Rattle.heco_good.specs.Compiled.{IsPassedOf}
 use Rattle.heco_nums.specs.declared.shape.Values.{Values}
 use Rattle.heco_sources.specs.Inputs.{output_shapes, IsInput}
 use Rattle.heco_sources.specs.Sources.{IsSource}
@@ -39,15 +39,16 @@ plain_job agents = Read 1 Source IsSource IsSourceRefusal (values_job agents)
 abbrev pub compile_plan : Plan
 compile_plan = record { reads = 1 ∷ []; writes = 2 ∷ []; prints = false }
 
--- the file of one of the source's circuits is written
-pub record Compiles (s : Source) (p : Product) : Type 0 where
+-- the file of what the passes make of one of the source's circuits is written, the passes are left so, and the picker as it was
+pub record Compiles (agents : Agents) (s : Source) (p : Product) (left : Agents) : Type 0 where
   pub circuit : Circuit
-  pub of_source : IsCircuitOf s circuit
+  pub of_source : IsPassedOf s agents.passes circuit left.passes
+  pub picker : left.picker ≡ agents.picker
   pub stores : Stores (planned 2 (circuit_text circuit) ∷ []) p
 
 -- the source is accepted, which is judged, and one of its circuits is written, which is chosen
 unfoldable pub accepted_job : Agents → Source → Job
-accepted_job agents s = Judge (Unit {0}) (λ _. IsAccepted s) (IsCompileRefusal s) (λ _. Give (asking_none agents (Compiles s)))
+accepted_job agents s = Judge (Unit {0}) (λ _. IsAccepted s) (IsCompileRefusal s) (λ _. Give (Compiles agents s))
 
 unfoldable pub compile_job : Agents → Job
 compile_job agents = Read 1 Source IsSource IsSourceRefusal (accepted_job agents)

@@ -15,7 +15,7 @@ mod running;
 mod show;
 
 pub use circuits::{input_count, inputs_of, preset_of};
-pub use compile::{compiled, gather_compile};
+pub use compile::{compile_product, compiled};
 pub use decrypt::gather_decrypt;
 pub use draw::gather_draw;
 pub use encrypt::gather_encrypt;

@@ -2,7 +2,7 @@ ghost use Rattle.std.specs.Prelude.{◌≡◌, ◌∷◌, [], IfOk, OnOk, length
 ghost use Rattle.heco_ciphertext_files.specs.CiphertextFiles.{AreCiphertexts};
 ghost use Rattle.heco_key_files.specs.KeyFiles.{lists_of};
 ghost use Rattle.heco_products.specs.Results.{results_file};
-ghost use Rattle.heco_jobs.specs.Agents.{agents};
+ghost use Rattle.heco_jobs.specs.Agents.{picking};
 ghost use Rattle.heco_jobs.specs.Products.{Stores, planned};
 ghost use Rattle.heco_tasks.specs.Running.{HasKeys, Leads};
 
@@ -28,7 +28,7 @@ pub fn run_product(
     requires keys { HasKeys circuit.now (lists_of key.now) }
     requires inputs { AreCiphertexts key.now.preset.n (length circuit.now.inputs) inputs.items }
     ensures stores { IfOk result (Stores (planned 4 (results_file key.now.preset circuit.now (lists_of key.now) inputs.items) ∷ [])) }
-    ensures leads { OnOk result (Leads circuit.now (agents (rule picker.old) (state picker.old)) (agents (rule picker.new) (state picker.new))) }
+    ensures leads { OnOk result (Leads circuit.now (picking (rule picker.old) (state picker.old)) (picking (rule picker.new) (state picker.new))) }
     ensures rule { rule picker.new ≡ rule picker.old }
 {
     let results = run_circuit(alloc, circuit, key, inputs, picker)?;

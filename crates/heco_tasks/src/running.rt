@@ -6,7 +6,7 @@ ghost use Rattle.heco_key_files.specs.KeyFiles.{lists_of};
 ghost use Rattle.heco_products.specs.Decrypting.{output_wire_count};
 ghost use Rattle.heco_products.specs.Results.{keys_of};
 ghost use Rattle.heco_run_laws.specs.Results.{results_of};
-ghost use Rattle.heco_jobs.specs.Agents.{agents};
+ghost use Rattle.heco_jobs.specs.Agents.{picking};
 ghost use Rattle.heco_jobs.specs.Stages.{Settles, came};
 ghost use Rattle.heco_tasks.specs.Running.{HasKeys, IsKeyRefusal, Leads, run_answer};
 
@@ -67,7 +67,7 @@ pub fn run_circuit(
     requires inputs { AreCiphertexts key.now.preset.n (length circuit.now.inputs) inputs.items }
     ensures results { IfOk result (λ outs. outs ≡ results_of key.now.preset (keys_of (lists_of key.now)) circuit.now inputs.items) }
     ensures ciphertexts { IfOk result (λ outs. AreCiphertexts key.now.preset.n (output_wire_count circuit.now) outs) }
-    ensures leads { OnOk result (Leads circuit.now (agents (rule picker.old) (state picker.old)) (agents (rule picker.new) (state picker.new))) }
+    ensures leads { OnOk result (Leads circuit.now (picking (rule picker.old) (state picker.old)) (picking (rule picker.new) (state picker.new))) }
     ensures rule { rule picker.new ≡ rule picker.old }
 {
     let _valid = circuit.preset();

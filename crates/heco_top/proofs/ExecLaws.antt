@@ -54,7 +54,7 @@ words_apart (c ∷ ws) e = elim (headline_row is_exec only_exec c ws e) [
 -- ---- the headline
 
 module _ (words : List (List ℕ)) (agents left : Agents) (old new : Outside) where
-  pub done_executed : (c : Option Command) (outcome : Outcome) → (is_exec c ≡ true → AreApart words (5 ∷ 6 ∷ 7 ∷ 8 ∷ 9 ∷ [])) → DoneFor words c agents left old new outcome → ExecutedFor words c old new outcome
+  pub done_executed : (c : Option Command) (outcome : Outcome) → (is_exec c ≡ true → AreApart words (5 ∷ 6 ∷ 7 ∷ 8 ∷ 9 ∷ [])) → DoneFor words c agents left old new outcome → ExecutedFor words c agents.passes left.passes old new outcome
   done_executed (Some Exec) Fine apart d = done_is_executed words agents left old new (apart refl) d
   done_executed (Some Exec) (Refused r) apart d = tt
   done_executed (Some Exec) (ReadFault k) apart d = tt

@@ -52,7 +52,7 @@ pair_words_apart (c ∷ ws) e = elim (headline_row is_pair only_pair c ws e) [
 -- ---- the headline
 
 module _ (words : List (List ℕ)) (agents left : Agents) (old new : Outside) where
-  pub done_paired : (c : Option Command) (outcome : Outcome) → (is_pair c ≡ true → AreApart words (6 ∷ 7 ∷ 8 ∷ 9 ∷ 10 ∷ [])) → DoneFor words c agents left old new outcome → PairedFor words c old new outcome
+  pub done_paired : (c : Option Command) (outcome : Outcome) → (is_pair c ≡ true → AreApart words (6 ∷ 7 ∷ 8 ∷ 9 ∷ 10 ∷ [])) → DoneFor words c agents left old new outcome → PairedFor words c agents.passes left.passes old new outcome
   done_paired (Some Pair) Fine apart d = done_is_paired words agents left old new (apart refl) d
   done_paired (Some Pair) (Refused r) apart d = tt
   done_paired (Some Pair) (ReadFault k) apart d = tt

@@ -1,5 +1,5 @@
 -- What the words are answered with: what the rest says of jobs, for the command that the words ask for.
-use Rattle.std.specs.Prelude.{◌≡◌, ◌++◌, ℕ, List, Option, Some, None}
+use Rattle.std.specs.Prelude.{◌≡◌, ◌++◌, ℕ, false, List, Option, Some, None}
 use Rattle.heco_nums.specs.declared.shape.Values.{Values}
 use Rattle.heco_sources.specs.Inputs.{output_shapes, IsInput}
 use Rattle.heco_sources.specs.Sources.{IsSource}
@@ -18,9 +18,10 @@ use Rattle.heco_jobs.specs.declared.outcome.Outcome.TheVariants.{Ok as Fine, Ref
 use Rattle.heco_jobs.specs.declared.outcome.Refusal.TheVariants.{Usage}
 use Rattle.heco_exec.specs.Laws.{PrintsExecuted}
 use Rattle.heco_pair.specs.Laws.{PrintsPaired}
+use Rattle.heco_peep.specs.Rules.{Handed}
 use Rattle.heco_tasks.specs.Executions.{AreOutputs}
 use Rattle.heco_tasks.specs.MeasuredFiles.{PrintsMeasured, PrintsChainWithinBounds}
-use Rattle.heco_top.specs.Commands.{command_of, plan_of, job_of, asks}
+use Rattle.heco_top.specs.Commands.{command_of, plan_of, job_of, asks, runs_passes}
 use Rattle.heco_top.specs.declared.command.Command.{Command}
 use Rattle.heco_top.specs.declared.command.Command.TheVariants.{Plain, Measure, Exec, Pair}
 
@@ -49,6 +50,14 @@ PickerLeftFor None outcome old new = new ≡ old
 -- the picker is as it was after a refusal and a read fault, and wherever the command doesn't ask it
 abbrev pub PickerLeft : {P : Type 0} → List (List ℕ) → Outcome → P → P → Type 0
 PickerLeft words outcome old new = PickerLeftFor (command_of words) outcome old new
+
+abbrev pub PassesLeftFor : {P : Type 0} → Option Command → P → P → Type 0
+PassesLeftFor (Some command) old new = runs_passes command ≡ false → new ≡ old
+PassesLeftFor None old new = new ≡ old
+
+-- the passes are as they were wherever the command runs none
+abbrev pub PassesLeft : {P : Type 0} → List (List ℕ) → P → P → Type 0
+PassesLeft words old new = PassesLeftFor (command_of words) old new
 
 -- ---- over an outside that tells
 
@@ -112,21 +121,21 @@ module _ (words : List (List ℕ)) where
 
   -- ---- the headline
 
-  abbrev pub ExecutedFor : Option Command → Outside → Outside → Outcome → Type 0
-  ExecutedFor (Some Exec) old new Fine = PrintsExecuted words old new
-  ExecutedFor command old new outcome = Unit {0}
+  abbrev pub ExecutedFor : Option Command → List Handed → List Handed → Outside → Outside → Outcome → Type 0
+  ExecutedFor (Some Exec) handed left old new Fine = PrintsExecuted words handed left old new
+  ExecutedFor command handed left old new outcome = Unit {0}
 
-  -- after Ok of `exec` the files are as the headline says, and standard output grew by the text of which it speaks
-  abbrev pub PrintsExec : Outside → Outside → Outcome → Type 0
-  PrintsExec old new outcome = ExecutedFor (command_of words) old new outcome
+  -- after Ok of `exec` the files and the passes are as the headline says, and standard output grew by the text of which it speaks
+  abbrev pub PrintsExec : List Handed → List Handed → Outside → Outside → Outcome → Type 0
+  PrintsExec handed left old new outcome = ExecutedFor (command_of words) handed left old new outcome
 
-  abbrev pub PairedFor : Option Command → Outside → Outside → Outcome → Type 0
-  PairedFor (Some Pair) old new Fine = PrintsPaired words old new
-  PairedFor command old new outcome = Unit {0}
+  abbrev pub PairedFor : Option Command → List Handed → List Handed → Outside → Outside → Outcome → Type 0
+  PairedFor (Some Pair) handed left old new Fine = PrintsPaired words handed left old new
+  PairedFor command handed left old new outcome = Unit {0}
 
   -- after Ok of `pair` the same of two rows of values, with a text for each
-  abbrev pub PrintsPair : Outside → Outside → Outcome → Type 0
-  PrintsPair old new outcome = PairedFor (command_of words) old new outcome
+  abbrev pub PrintsPair : List Handed → List Handed → Outside → Outside → Outcome → Type 0
+  PrintsPair handed left old new outcome = PairedFor (command_of words) handed left old new outcome
 
   -- ---- measured noise
 

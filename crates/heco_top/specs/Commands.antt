@@ -132,6 +132,21 @@ asks Exec = true
 asks Pair = true
 asks (Sample seed) = true
 
+-- whether passes run over a circuit
+abbrev pub runs_passes : Command → Bool
+runs_passes Plain = false
+runs_passes Compile = true
+runs_passes Show = false
+runs_passes (Draw seed) = false
+runs_passes Keys = false
+runs_passes Encrypt = false
+runs_passes Run = false
+runs_passes Decrypt = false
+runs_passes Measure = false
+runs_passes Exec = true
+runs_passes Pair = true
+runs_passes (Sample seed) = true
+
 abbrev pub job_of : Agents → Command → Job
 job_of agents Plain = plain_job agents
 job_of agents Compile = compile_job agents

@@ -2,6 +2,7 @@
 #![tactic(auto)]
 
 mod command;
+mod compile;
 mod exec;
 mod gather;
 mod pair;

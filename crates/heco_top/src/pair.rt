@@ -1,16 +1,19 @@
-ghost use Rattle.std.specs.Prelude.{◌≡◌, IfErr};
-ghost use Rattle.heco_good.specs.Compiled.{IsCircuitOf};
+ghost use Rattle.std.specs.Prelude.{◌≡◌, IfErr, List, map};
+ghost use Rattle.heco_good.specs.Compiled.{IsPassedOf};
 ghost use Rattle.heco_material.specs.KeyLists.{lists_of};
+ghost use Rattle.heco_peep.specs.Rules.{Handed};
 ghost use Rattle.heco_products.specs.PresetRows.{preset_of};
+ghost use Rattle.heco_reads.specs.SourceFiles.{HasText};
 ghost use Rattle.heco_syntax.specs.declared.tree.Source.{Source};
 ghost use Rattle.heco_texts.specs.Answers.{HaveFit};
-ghost use Rattle.heco_jobs.specs.Agents.{agents};
+ghost use Rattle.heco_jobs.specs.Agents.{agents, picking};
 ghost use Rattle.heco_jobs.specs.Laws.{IsLeft};
 ghost use Rattle.heco_jobs.specs.Stages.{IsGathered};
 ghost use Rattle.heco_jobs.specs.Words.{texts};
 ghost use Rattle.heco_exec.specs.Chain.{AreKeysFor};
 ghost use Rattle.heco_pair.specs.PairTask.{pair_plan, pair_job, accepted_job, first_job, second_job, keys_job, encryptions_job};
 
+use crate::compile::passed;
 use heco_circuit::Circuit;
 use heco_exec::read_key_words;
 use heco_jobs::{Outcome, Product};
@@ -18,9 +21,10 @@ use heco_material::KeyWords;
 use heco_nums::Inputs;
 use heco_outside::Store;
 use heco_pair::pair_product;
+use heco_peep::Pass;
 use heco_reads::{read_encryptions, read_inputs, read_second_inputs, read_source};
 use heco_sched::Picker;
-use heco_tasks::{compiled, input_count, inputs_of, preset_of};
+use heco_tasks::{input_count, inputs_of, preset_of};
 use heco_types::Typed;
 use std::alloc::Global;
 
@@ -38,8 +42,8 @@ fn gather_encryptions<S: Store>(
     requires first { HaveFit (preset_of circuit.now.preset).t circuit.now.inputs first.now.rows }
     requires second { HaveFit (preset_of circuit.now.preset).t circuit.now.inputs second.now.rows }
     requires keys { AreKeysFor circuit.now k.now }
-    ensures gathered { (s : Source) → IsCircuitOf s circuit.now → IsGathered S.Store (texts words.now) pair_plan
-        (encryptions_job (agents (rule picker.old) (state picker.old)) s first.now second.now (lists_of k.now)) (agents (rule picker.new) (state picker.new)) store.old store.new result }
+    ensures gathered { (s : Source) (handed left : List Handed) → IsPassedOf s handed circuit.now left → IsGathered S.Store (texts words.now) pair_plan
+        (encryptions_job (agents (picking (rule picker.old) (state picker.old)) handed) s first.now second.now (lists_of k.now)) (agents (picking (rule picker.new) (state picker.new)) left) store.old store.new result }
     ensures rule { rule picker.new ≡ rule picker.old }
     ensures left { IfErr result (λ outcome. IsLeft outcome picker.old picker.new) }
 {
@@ -62,8 +66,8 @@ fn gather_keys<S: Store>(
 ) -> Result<Product, Outcome>
     requires first { HaveFit (preset_of circuit.now.preset).t circuit.now.inputs first.now.rows }
     requires second { HaveFit (preset_of circuit.now.preset).t circuit.now.inputs second.now.rows }
-    ensures gathered { (s : Source) → IsCircuitOf s circuit.now → IsGathered S.Store (texts words.now) pair_plan
-        (keys_job (agents (rule picker.old) (state picker.old)) s first.now second.now) (agents (rule picker.new) (state picker.new)) store.old store.new result }
+    ensures gathered { (s : Source) (handed left : List Handed) → IsPassedOf s handed circuit.now left → IsGathered S.Store (texts words.now) pair_plan
+        (keys_job (agents (picking (rule picker.old) (state picker.old)) handed) s first.now second.now) (agents (picking (rule picker.new) (state picker.new)) left) store.old store.new result }
     ensures rule { rule picker.new ≡ rule picker.old }
     ensures left { IfErr result (λ outcome. IsLeft outcome picker.old picker.new) }
 {
@@ -81,8 +85,8 @@ fn gather_second<S: Store>(
     picker: &mut Box<dyn Picker>,
 ) -> Result<Product, Outcome>
     requires { HaveFit (preset_of circuit.now.preset).t circuit.now.inputs first.now.rows }
-    ensures gathered { (s : Source) → IsCircuitOf s circuit.now → IsGathered S.Store (texts words.now) pair_plan
-        (second_job (agents (rule picker.old) (state picker.old)) s first.now) (agents (rule picker.new) (state picker.new)) store.old store.new result }
+    ensures gathered { (s : Source) (handed left : List Handed) → IsPassedOf s handed circuit.now left → IsGathered S.Store (texts words.now) pair_plan
+        (second_job (agents (picking (rule picker.old) (state picker.old)) handed) s first.now) (agents (picking (rule picker.new) (state picker.new)) left) store.old store.new result }
     ensures rule { rule picker.new ≡ rule picker.old }
     ensures left { IfErr result (λ outcome. IsLeft outcome picker.old picker.new) }
 {
@@ -99,8 +103,8 @@ fn gather_first<S: Store>(
     store: &mut S,
     picker: &mut Box<dyn Picker>,
 ) -> Result<Product, Outcome>
-    ensures gathered { (s : Source) → IsCircuitOf s circuit.now → IsGathered S.Store (texts words.now) pair_plan
-        (first_job (agents (rule picker.old) (state picker.old)) s) (agents (rule picker.new) (state picker.new)) store.old store.new result }
+    ensures gathered { (s : Source) (handed left : List Handed) → IsPassedOf s handed circuit.now left → IsGathered S.Store (texts words.now) pair_plan
+        (first_job (agents (picking (rule picker.old) (state picker.old)) handed) s) (agents (picking (rule picker.new) (state picker.new)) left) store.old store.new result }
     ensures rule { rule picker.new ≡ rule picker.old }
     ensures left { IfErr result (λ outcome. IsLeft outcome picker.old picker.new) }
 {
@@ -116,13 +120,17 @@ fn gather_accepted<S: Store>(
     words: &[String],
     store: &mut S,
     picker: &mut Box<dyn Picker>,
+    passes: &mut Vec<Box<dyn Pass>>,
 ) -> Result<Product, Outcome>
+    requires { HasText typed.now }
     ensures gathered { IsGathered S.Store (texts words.now) pair_plan
-        (accepted_job (agents (rule picker.old) (state picker.old)) typed.now) (agents (rule picker.new) (state picker.new)) store.old store.new result }
+        (accepted_job (agents (picking (rule picker.old) (state picker.old)) (map (λ b. handed b) passes.old.items)) typed.now)
+        (agents (picking (rule picker.new) (state picker.new)) (map (λ b. handed b) passes.new.items)) store.old store.new result }
     ensures rule { rule picker.new ≡ rule picker.old }
+    ensures rules { map (λ b. (handed b).rule) passes.new.items ≡ map (λ b. (handed b).rule) passes.old.items }
     ensures left { IfErr result (λ outcome. IsLeft outcome picker.old picker.new) }
 {
-    let circuit = compiled(alloc, typed)?;
+    let circuit = passed(alloc, typed, passes)?;
     gather_first(alloc, &circuit, words, store, picker)
 }
 
@@ -132,12 +140,15 @@ pub fn gather_pair<S: Store>(
     words: &[String],
     store: &mut S,
     picker: &mut Box<dyn Picker>,
+    passes: &mut Vec<Box<dyn Pass>>,
 ) -> Result<Product, Outcome>
     ensures gathered { IsGathered S.Store (texts words.now) pair_plan
-        (pair_job (agents (rule picker.old) (state picker.old))) (agents (rule picker.new) (state picker.new)) store.old store.new result }
+        (pair_job (agents (picking (rule picker.old) (state picker.old)) (map (λ b. handed b) passes.old.items)))
+        (agents (picking (rule picker.new) (state picker.new)) (map (λ b. handed b) passes.new.items)) store.old store.new result }
     ensures rule { rule picker.new ≡ rule picker.old }
+    ensures rules { map (λ b. (handed b).rule) passes.new.items ≡ map (λ b. (handed b).rule) passes.old.items }
     ensures left { IfErr result (λ outcome. IsLeft outcome picker.old picker.new) }
 {
     let typed = read_source(alloc, words, 1, store)?;
-    gather_accepted(alloc, &typed, words, store, picker)
+    gather_accepted(alloc, &typed, words, store, picker, passes)
 }

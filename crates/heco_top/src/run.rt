@@ -1,9 +1,10 @@
-ghost use Rattle.std.specs.Prelude.{◌≡◌, IfErr, length};
+ghost use Rattle.std.specs.Prelude.{◌≡◌, IfErr, List, length};
 ghost use Rattle.heco_key_files.specs.KeyFiles.{lists_of};
-ghost use Rattle.heco_jobs.specs.Agents.{agents};
+ghost use Rattle.heco_jobs.specs.Agents.{agents, picking};
 ghost use Rattle.heco_jobs.specs.Laws.{IsLeft};
 ghost use Rattle.heco_jobs.specs.Stages.{IsGathered};
 ghost use Rattle.heco_jobs.specs.Words.{texts};
+ghost use Rattle.heco_peep.specs.Rules.{Handed};
 ghost use Rattle.heco_tasks.specs.CircuitTasks.{run_plan, run_job, run_key_job, served_job, ciphertexts_job};
 ghost use Rattle.heco_tasks.specs.Running.{HasKeys};
 
@@ -29,8 +30,9 @@ fn gather_inputs<S: Store>(
 ) -> Result<Product, Outcome>
     requires preset { key.now.preset.id ≡ circuit.now.preset }
     requires keys { HasKeys circuit.now (lists_of key.now) }
-    ensures gathered { IsGathered S.Store (texts words.now) run_plan (ciphertexts_job (agents (rule picker.old) (state picker.old)) key.now.preset circuit.now (lists_of key.now))
-        (agents (rule picker.new) (state picker.new)) store.old store.new result }
+    ensures gathered { (passes : List Handed) → IsGathered S.Store (texts words.now) run_plan
+        (ciphertexts_job (agents (picking (rule picker.old) (state picker.old)) passes) key.now.preset circuit.now (lists_of key.now))
+        (agents (picking (rule picker.new) (state picker.new)) passes) store.old store.new result }
     ensures rule { rule picker.new ≡ rule picker.old }
     ensures left { IfErr result (λ outcome. IsLeft outcome picker.old picker.new) }
 {
@@ -50,8 +52,9 @@ fn gather_served<S: Store>(
     picker: &mut Box<dyn Picker>,
 ) -> Result<Product, Outcome>
     requires { key.now.preset.id ≡ circuit.now.preset }
-    ensures gathered { IsGathered S.Store (texts words.now) run_plan (served_job (agents (rule picker.old) (state picker.old)) key.now.preset circuit.now (lists_of key.now))
-        (agents (rule picker.new) (state picker.new)) store.old store.new result }
+    ensures gathered { (passes : List Handed) → IsGathered S.Store (texts words.now) run_plan
+        (served_job (agents (picking (rule picker.old) (state picker.old)) passes) key.now.preset circuit.now (lists_of key.now))
+        (agents (picking (rule picker.new) (state picker.new)) passes) store.old store.new result }
     ensures rule { rule picker.new ≡ rule picker.old }
     ensures left { IfErr result (λ outcome. IsLeft outcome picker.old picker.new) }
 {
@@ -69,8 +72,9 @@ fn gather_key<S: Store>(
     picker: &mut Box<dyn Picker>,
 ) -> Result<Product, Outcome>
     requires { preset.now.id ≡ circuit.now.preset }
-    ensures gathered { IsGathered S.Store (texts words.now) run_plan (run_key_job (agents (rule picker.old) (state picker.old)) preset.now circuit.now)
-        (agents (rule picker.new) (state picker.new)) store.old store.new result }
+    ensures gathered { (passes : List Handed) → IsGathered S.Store (texts words.now) run_plan
+        (run_key_job (agents (picking (rule picker.old) (state picker.old)) passes) preset.now circuit.now)
+        (agents (picking (rule picker.new) (state picker.new)) passes) store.old store.new result }
     ensures rule { rule picker.new ≡ rule picker.old }
     ensures left { IfErr result (λ outcome. IsLeft outcome picker.old picker.new) }
 {
@@ -85,8 +89,9 @@ pub fn gather_run<S: Store>(
     store: &mut S,
     picker: &mut Box<dyn Picker>,
 ) -> Result<Product, Outcome>
-    ensures gathered { IsGathered S.Store (texts words.now) run_plan (run_job (agents (rule picker.old) (state picker.old)))
-        (agents (rule picker.new) (state picker.new)) store.old store.new result }
+    ensures gathered { (passes : List Handed) → IsGathered S.Store (texts words.now) run_plan
+        (run_job (agents (picking (rule picker.old) (state picker.old)) passes))
+        (agents (picking (rule picker.new) (state picker.new)) passes) store.old store.new result }
     ensures rule { rule picker.new ≡ rule picker.old }
     ensures left { IfErr result (λ outcome. IsLeft outcome picker.old picker.new) }
 {

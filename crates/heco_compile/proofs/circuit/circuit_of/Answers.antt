@@ -11,7 +11,7 @@ pub returns-clause-circuit : goal.returns-clause-circuit
 returns-clause-circuit c =
     let placed = c.in_ok-placed.placed in
     let good = c.in_ok-placed.ensures.good in
-    rw c.in_ok-gather.ensures (gathered_is_good c.args.t.now placed good (has_room placed good.valid c.in_ok-placed.ensures.few))
+    rw c.in_ok-gather.ensures (gathered_is_good c.args.t.now placed good c.in_ok-placed.ensures.unweighed (has_room placed good.valid c.in_ok-placed.ensures.few))
 
 pub returns-clause-few : goal.returns-clause-few
 returns-clause-few c =

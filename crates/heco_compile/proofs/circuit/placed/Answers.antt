@@ -1,8 +1,11 @@
 use Rattle.std.proofs.Common.{◌≡◌, ◌∙◌, length, arith, false}
+use Rattle.std.specs.Prelude.{nat_lt}
 use Rattle.std.proofs.lemmas.Result.{err_from_is_err_and}
 use Rattle.heco_types.specs.Shapes.{shapes_of}
-use Rattle.heco_ir.specs.Terms.{terms_at}
+use Rattle.heco_ir.specs.Terms.{terms_at, vector_terms}
 use Rattle.heco_unroll.proofs.Shapes.{modulus_is}
+use Rattle.heco_written.specs.Cost.{cost, late_cost}
+use Rattle.heco_place.proofs.KindCounts.{none_weighs}
 use Rattle.heco_circuit.specs.Plans.{Plan}
 use Rattle.heco_good.specs.Good.{modulus, slots}
 use Rattle.heco_good.proofs.PlacedLaw.{placed_is_good}
@@ -68,6 +71,13 @@ returns-clause-good c =
     let over = homes_written s c.args.vectors.now.0 c.args.vectors.now.1 c.args.homes.now v used.0 used.1 c.in_ok-used.ensures.terms in
     placed_is_good s c.in_ok-circuit.circuit v.terms v.are c.preset.ensures.valid
     (rw (id_is c.preset-preset.result.now s.params.text c.preset-preset.ensures.name, c.as_slice-inputs.ensures, c.inputs.ensures.value, c.as_slice-outputs.ensures, c.outputs.ensures.value, over) at c.in_ok-circuit.ensures.placed)
+
+pub returns-clause-unweighed : goal.returns-clause-unweighed
+returns-clause-unweighed c =
+    let used = c.in_ok-used.used in
+    let ts = vector_terms used.0 in
+    let vs = terms_at used.0 used.1 in
+    none_weighs (nat_lt (late_cost vs) (cost vs)) ts vs c.in_ok-circuit.circuit.gates ts c.in_ok-circuit.ensures.fewer
 
 pub returns-clause-few : goal.returns-clause-few
 returns-clause-few c =

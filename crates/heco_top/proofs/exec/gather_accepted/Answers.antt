@@ -20,4 +20,4 @@ unfolding accepted_job
 returns-clause-gathered g c =
     let s = c.args.typed.now in
     gathered_judged g.S.Store (texts c.args.words.now) exec_plan {Thing = Unit {0}} (λ _. IsAccepted s) (IsCompileRefusal s) (λ _. inputs_job _ s) _
-    c.args.store.now c.gather_inputs.new.store tt c.gather_inputs.result c.in_ok-circuit.ensures.settled (c.gather_inputs.ensures.gathered s c.in_ok-circuit.ensures.circuit)
+    c.args.store.now c.gather_inputs.new.store tt c.gather_inputs.result c.in_ok-circuit.ensures.settled (c.gather_inputs.ensures.gathered s _ _ c.in_ok-circuit.ensures.circuit)

@@ -8,14 +8,14 @@ use Rattle.heco_top.proofs.exec.gather_keys.Goals as goal
 
 pub returns-in_err-k-clause-gathered : goal.returns-in_err-k-clause-gathered
 unfolding keys_job
-returns-in_err-k-clause-gathered g c = λ s of_source.
+returns-in_err-k-clause-gathered g c = λ s handed left of_source.
     let p = err_from_is_err_and c.from_residual.result c.from_residual.ensures.1 in
     rw (p.1, p.2) (gathered_stopped g.S.Store (texts c.args.words.now) exec_plan 3 (IsKeyMaterialOf s) (IsNoKeyMaterialOf s) (encryptions_job _ s c.args.values.now) _
     c.args.store.now c.read_key_words.new.store c.in_err-k.field-0.0 (inr (inr (inl refl))) (c.in_err-k.ensures.read s of_source.good))
 
 pub returns-clause-gathered : goal.returns-clause-gathered
 unfolding keys_job
-returns-clause-gathered g c = λ s of_source.
+returns-clause-gathered g c = λ s handed left of_source.
     gathered_on g.S.Store (texts c.args.words.now) exec_plan 3 (IsKeyMaterialOf s) (IsNoKeyMaterialOf s) (encryptions_job _ s c.args.values.now) _
     c.args.store.now c.read_key_words.new.store c.gather_encryptions.new.store (lists_of c.in_ok-k.k) c.gather_encryptions.result (c.in_ok-k.ensures.read s of_source.good)
-    (c.gather_encryptions.ensures.gathered s of_source)
+    (c.gather_encryptions.ensures.gathered s handed left of_source)

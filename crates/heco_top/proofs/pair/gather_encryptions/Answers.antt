@@ -21,7 +21,7 @@ pair_product-requires-clause-runs g c =
 
 pub returns-in_err-material-clause-gathered : goal.returns-in_err-material-clause-gathered
 unfolding encryptions_job
-returns-in_err-material-clause-gathered g c = λ s of_source.
+returns-in_err-material-clause-gathered g c = λ s handed left of_source.
     let o = c.in_err-material.field-0.0 in
     let p = err_from_is_err_and c.from_residual.result c.from_residual.ensures.1 in
     rw (p.1, p.2) (gathered_stopped g.S.Store (texts c.args.words.now) pair_plan 5 (IsEncryptionMaterialOf s) (IsNoEncryptionMaterialIn 5 s)
@@ -32,7 +32,7 @@ returns-in_err-material-clause-gathered g c = λ s of_source.
 
 pub returns-in_err-product-clause-gathered : goal.returns-in_err-product-clause-gathered
 unfolding encryptions_job
-returns-in_err-product-clause-gathered g c = λ s of_source.
+returns-in_err-product-clause-gathered g c = λ s handed left of_source.
     let rows = c.in_ok-material.material.rows in
     let p = err_from_is_err_and c.from_residual-in_err-product.result c.from_residual-in_err-product.ensures.1 in
     rw (p.1, p.2) (gathered_on g.S.Store (texts c.args.words.now) pair_plan 5 (IsEncryptionMaterialOf s) (IsNoEncryptionMaterialIn 5 s)
@@ -44,7 +44,7 @@ returns-in_err-product-clause-gathered g c = λ s of_source.
 
 pub returns-clause-gathered : goal.returns-clause-gathered
 unfolding encryptions_job
-returns-clause-gathered g c = λ s of_source.
+returns-clause-gathered g c = λ s handed left of_source.
     let rows = c.in_ok-material.material.rows in
     let k = lists_of c.args.k.now in
     let v = c.args.first.now in

@@ -17,7 +17,7 @@ gather_second-requires g c =
 
 pub returns-in_err-first-clause-gathered : goal.returns-in_err-first-clause-gathered
 unfolding first_job
-returns-in_err-first-clause-gathered g c = λ s of_source.
+returns-in_err-first-clause-gathered g c = λ s handed left of_source.
     let o = c.in_err-first.field-0.0 in
     let p = err_from_is_err_and c.from_residual.result c.from_residual.ensures.1 in
     rw (p.1, p.2) (gathered_stopped g.S.Store (texts c.args.words.now) pair_plan 2 (IsInput s) (IsValuesRefusal s) (second_job _ s) _
@@ -27,10 +27,10 @@ returns-in_err-first-clause-gathered g c = λ s of_source.
 
 pub returns-clause-gathered : goal.returns-clause-gathered
 unfolding first_job
-returns-clause-gathered g c = λ s of_source.
+returns-clause-gathered g c = λ s handed left of_source.
     let v = c.in_ok-first.first in
     gathered_on g.S.Store (texts c.args.words.now) pair_plan 2 (IsInput s) (IsValuesRefusal s) (second_job _ s) _
     c.args.store.now c.read_inputs.new.store c.gather_second.new.store v c.gather_second.result
     (inputs_judged g.S.Store (texts c.args.words.now) s c.args.circuit.now of_source.good c.preset_of-preset.result.now c.args.store.now c.read_inputs.new.store 2 IsTextRefusal c.inputs_of.result.now (Ok v)
     c.preset_of-preset.ensures.number c.inputs_of.ensures.inputs c.in_ok-first.ensures.read)
-    (c.gather_second.ensures.gathered s of_source)
+    (c.gather_second.ensures.gathered s handed left of_source)

@@ -12,10 +12,10 @@ unfolding pair_job
 returns-in_err-typed-clause-gathered g c =
     let p = err_from_is_err_and c.from_residual.result c.from_residual.ensures.1 in
     rw (p.1, p.2) (gathered_stopped g.S.Store (texts c.args.words.now) pair_plan 1 IsSource IsSourceRefusal (accepted_job _) _
-    c.args.store.now c.read_source.new.store c.in_err-typed.field-0.0 (inl refl) c.in_err-typed.ensures)
+    c.args.store.now c.read_source.new.store c.in_err-typed.field-0.0 (inl refl) c.in_err-typed.ensures.read)
 
 pub returns-clause-gathered : goal.returns-clause-gathered
 unfolding pair_job
 returns-clause-gathered g c =
     gathered_on g.S.Store (texts c.args.words.now) pair_plan 1 IsSource IsSourceRefusal (accepted_job _) _
-    c.args.store.now c.read_source.new.store c.gather_accepted.new.store c.in_ok-typed.typed c.gather_accepted.result c.in_ok-typed.ensures c.gather_accepted.ensures.gathered
+    c.args.store.now c.read_source.new.store c.gather_accepted.new.store c.in_ok-typed.typed c.gather_accepted.result c.in_ok-typed.ensures.read c.gather_accepted.ensures.gathered

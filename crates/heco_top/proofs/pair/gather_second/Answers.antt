@@ -17,7 +17,7 @@ gather_keys-requires-clause-second g c =
 
 pub returns-in_err-second-clause-gathered : goal.returns-in_err-second-clause-gathered
 unfolding second_job
-returns-in_err-second-clause-gathered g c = λ s of_source.
+returns-in_err-second-clause-gathered g c = λ s handed left of_source.
     let o = c.in_err-second.field-0.0 in
     let p = err_from_is_err_and c.from_residual.result c.from_residual.ensures.1 in
     rw (p.1, p.2) (gathered_stopped g.S.Store (texts c.args.words.now) pair_plan 3 (IsInput s) (IsSecondRefusal s) (keys_job _ s c.args.first.now) _
@@ -27,10 +27,10 @@ returns-in_err-second-clause-gathered g c = λ s of_source.
 
 pub returns-clause-gathered : goal.returns-clause-gathered
 unfolding second_job
-returns-clause-gathered g c = λ s of_source.
+returns-clause-gathered g c = λ s handed left of_source.
     let v = c.in_ok-second.second in
     gathered_on g.S.Store (texts c.args.words.now) pair_plan 3 (IsInput s) (IsSecondRefusal s) (keys_job _ s c.args.first.now) _
     c.args.store.now c.read_second_inputs.new.store c.gather_keys.new.store v c.gather_keys.result
     (inputs_judged g.S.Store (texts c.args.words.now) s c.args.circuit.now of_source.good c.preset_of-preset.result.now c.args.store.now c.read_second_inputs.new.store 3 IsSecondTextRefusal c.inputs_of.result.now (Ok v)
     c.preset_of-preset.ensures.number c.inputs_of.ensures.inputs c.in_ok-second.ensures.read)
-    (c.gather_keys.ensures.gathered s of_source)
+    (c.gather_keys.ensures.gathered s handed left of_source)

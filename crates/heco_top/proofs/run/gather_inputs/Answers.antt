@@ -5,7 +5,7 @@ use Rattle.heco_ciphertext_files.specs.declared.kind.FileKind.TheVariants.{Cts}
 use Rattle.heco_key_files.specs.KeyFiles.{lists_of}
 use Rattle.heco_nums.specs.declared.preset.Preset.{Preset}
 use Rattle.heco_products.specs.Results.{results_file}
-use Rattle.heco_jobs.specs.Agents.{agents}
+use Rattle.heco_jobs.specs.Agents.{agents, picking}
 use Rattle.heco_jobs.specs.Jobs.{Give}
 use Rattle.heco_jobs.specs.Products.{planned}
 use Rattle.heco_jobs.specs.Stages.{IsThingRead}
@@ -24,9 +24,9 @@ run_product-requires-clause-inputs g c =
 
 pub returns-in_err-inputs-clause-gathered : goal.returns-in_err-inputs-clause-gathered
 unfolding ciphertexts_job
-returns-in_err-inputs-clause-gathered g c =
+returns-in_err-inputs-clause-gathered g c = λ passes.
     let was = goal.Picker-dyn g (c.args.picker.now.vtable, c.args.picker.now.value) in
-    let from = agents (was.rule c.args.picker.now.value) (was.state c.args.picker.now.value) in
+    let from = agents (picking (was.rule c.args.picker.now.value) (was.state c.args.picker.now.value)) passes in
     let q = c.args.key.now.preset in
     let e = lists_of c.args.key.now in
     let m = length c.args.circuit.now.inputs in
@@ -45,11 +45,11 @@ returns-in_err-inputs-clause-left g c =
 
 pub returns-in_err-product-clause-gathered : goal.returns-in_err-product-clause-gathered
 unfolding ciphertexts_job
-returns-in_err-product-clause-gathered g c =
+returns-in_err-product-clause-gathered g c = λ passes.
     let was = goal.Picker-dyn g (c.args.picker.now.vtable, c.args.picker.now.value) in
     let now = goal.Picker-dyn g (c.run_product.new.picker.vtable, c.run_product.new.picker.value) in
-    let from = agents (was.rule c.args.picker.now.value) (was.state c.args.picker.now.value) in
-    let to = agents (now.rule c.run_product.new.picker.value) (now.state c.run_product.new.picker.value) in
+    let from = agents (picking (was.rule c.args.picker.now.value) (was.state c.args.picker.now.value)) passes in
+    let to = agents (picking (now.rule c.run_product.new.picker.value) (now.state c.run_product.new.picker.value)) passes in
     let q = c.args.key.now.preset in
     let e = lists_of c.args.key.now in
     let m = length c.args.circuit.now.inputs in
@@ -64,11 +64,11 @@ returns-in_err-product-clause-gathered g c =
 
 pub returns-clause-gathered : goal.returns-clause-gathered
 unfolding ciphertexts_job
-returns-clause-gathered g c =
+returns-clause-gathered g c = λ passes.
     let was = goal.Picker-dyn g (c.args.picker.now.vtable, c.args.picker.now.value) in
     let now = goal.Picker-dyn g (c.run_product.new.picker.vtable, c.run_product.new.picker.value) in
-    let from = agents (was.rule c.args.picker.now.value) (was.state c.args.picker.now.value) in
-    let to = agents (now.rule c.run_product.new.picker.value) (now.state c.run_product.new.picker.value) in
+    let from = agents (picking (was.rule c.args.picker.now.value) (was.state c.args.picker.now.value)) passes in
+    let to = agents (picking (now.rule c.run_product.new.picker.value) (now.state c.run_product.new.picker.value)) passes in
     let q = c.args.key.now.preset in
     let e = lists_of c.args.key.now in
     let m = length c.args.circuit.now.inputs in
@@ -81,4 +81,4 @@ returns-clause-gathered g c =
     c.input_count-count.ensures c.in_ok-inputs.ensures.read))
     (gathered_decided g.S.Store (texts c.args.words.now) run_plan _ to c.read_ciphertexts.new.store (Ok product)
     (given run_plan (Runs from q c.args.circuit.now e cs) to (Ok product) (λ o h. fits_store run_plan (planned 4 (results_file q c.args.circuit.now e cs) ∷ []) o refl refl h.0)
-    (c.in_ok-product.ensures.stores, c.in_ok-product.ensures.leads)))
+    (c.in_ok-product.ensures.stores, (c.in_ok-product.ensures.leads, refl))))

@@ -1,7 +1,7 @@
 use Rattle.std.proofs.Common.{refl}
 use Rattle.std.proofs.lemmas.Result.{err_from_is_err_and}
 use Rattle.heco_key_files.specs.KeyFiles.{lists_of}
-use Rattle.heco_jobs.specs.Agents.{agents}
+use Rattle.heco_jobs.specs.Agents.{agents, picking}
 use Rattle.heco_jobs.specs.Words.{texts}
 use Rattle.heco_jobs.proofs.StageLaws.{gathered_decided, gathered_judged, decided_off}
 use Rattle.heco_tasks.specs.CircuitTasks.{run_plan, served_job, ciphertexts_job}
@@ -11,9 +11,9 @@ use Rattle.heco_top.proofs.run.gather_served.Goals as goal
 
 pub returns-in_err-judge_keys-clause-gathered : goal.returns-in_err-judge_keys-clause-gathered
 unfolding served_job
-returns-in_err-judge_keys-clause-gathered g c =
+returns-in_err-judge_keys-clause-gathered g c = λ passes.
     let was = goal.Picker-dyn g (c.args.picker.now.vtable, c.args.picker.now.value) in
-    let from = agents (was.rule c.args.picker.now.value) (was.state c.args.picker.now.value) in
+    let from = agents (picking (was.rule c.args.picker.now.value) (was.state c.args.picker.now.value)) passes in
     let q = c.args.key.now.preset in
     let e = lists_of c.args.key.now in
     let p = err_from_is_err_and c.from_residual.result c.from_residual.ensures.1 in
@@ -28,12 +28,12 @@ returns-in_err-judge_keys-clause-left g c =
 
 pub returns-clause-gathered : goal.returns-clause-gathered
 unfolding served_job
-returns-clause-gathered g c =
+returns-clause-gathered g c = λ passes.
     let was = goal.Picker-dyn g (c.args.picker.now.vtable, c.args.picker.now.value) in
     let now = goal.Picker-dyn g (c.gather_inputs.new.picker.vtable, c.gather_inputs.new.picker.value) in
-    let from = agents (was.rule c.args.picker.now.value) (was.state c.args.picker.now.value) in
-    let to = agents (now.rule c.gather_inputs.new.picker.value) (now.state c.gather_inputs.new.picker.value) in
+    let from = agents (picking (was.rule c.args.picker.now.value) (was.state c.args.picker.now.value)) passes in
+    let to = agents (picking (now.rule c.gather_inputs.new.picker.value) (now.state c.gather_inputs.new.picker.value)) passes in
     let q = c.args.key.now.preset in
     let e = lists_of c.args.key.now in
     gathered_judged g.S.Store (texts c.args.words.now) run_plan {Thing = Unit {0}} (λ u. HasKeys c.args.circuit.now e) (IsKeyRefusal c.args.circuit.now e)
-    (λ u. ciphertexts_job from q c.args.circuit.now e) to c.args.store.now c.gather_inputs.new.store tt c.gather_inputs.result c.in_ok-judge_keys.ensures c.gather_inputs.ensures.gathered
+    (λ u. ciphertexts_job from q c.args.circuit.now e) to c.args.store.now c.gather_inputs.new.store tt c.gather_inputs.result c.in_ok-judge_keys.ensures (c.gather_inputs.ensures.gathered passes)

@@ -1,4 +1,3 @@
-use Rattle.heco_jobs.specs.Agents.{agents}
 use Rattle.heco_jobs.specs.Outsides.{outside}
 use Rattle.heco_jobs.specs.Words.{texts}
 use Rattle.std.proofs.Common.{ℕ, List, [], ◌∷◌}
@@ -12,29 +11,17 @@ use Rattle.heco_top.proofs.top.heco.Goals as goal
 
 pub returns-clause-planned : goal.returns-clause-planned
 returns-clause-planned g c = λ told told_out.
-    let was = goal.Picker-dyn g (c.args.picker.now.vtable, c.args.picker.now.value) in
-    let left = goal.Picker-dyn g (c.answer-outcome.new.picker.vtable, c.answer-outcome.new.picker.value) in
-    let from = agents (was.rule c.args.picker.now.value) (was.state c.args.picker.now.value) in
-    let to = agents (left.rule c.answer-outcome.new.picker.value) (left.state c.answer-outcome.new.picker.value) in
-    ends_as_planned (texts c.args.words.now) from to (outside g.S.Store g.O.Sink c.args.store.now c.args.out.now) (outside g.S.Store g.O.Sink c.answer-outcome.new.store c.answer-outcome.new.out)
+    ends_as_planned (texts c.args.words.now) _ _ (outside g.S.Store g.O.Sink c.args.store.now c.args.out.now) (outside g.S.Store g.O.Sink c.answer-outcome.new.store c.answer-outcome.new.out)
     (command_of (texts c.args.words.now)) c.answer-outcome.result (c.answer-outcome.ensures.told told told_out)
 
 pub returns-clause-done : goal.returns-clause-done
 returns-clause-done g c = λ told told_out.
-    let was = goal.Picker-dyn g (c.args.picker.now.vtable, c.args.picker.now.value) in
-    let left = goal.Picker-dyn g (c.answer-outcome.new.picker.vtable, c.answer-outcome.new.picker.value) in
-    let from = agents (was.rule c.args.picker.now.value) (was.state c.args.picker.now.value) in
-    let to = agents (left.rule c.answer-outcome.new.picker.value) (left.state c.answer-outcome.new.picker.value) in
-    ends_done_as_owed (texts c.args.words.now) from to (outside g.S.Store g.O.Sink c.args.store.now c.args.out.now) (outside g.S.Store g.O.Sink c.answer-outcome.new.store c.answer-outcome.new.out)
+    ends_done_as_owed (texts c.args.words.now) _ _ (outside g.S.Store g.O.Sink c.args.store.now c.args.out.now) (outside g.S.Store g.O.Sink c.answer-outcome.new.store c.answer-outcome.new.out)
     (command_of (texts c.args.words.now)) c.answer-outcome.result (c.answer-outcome.ensures.told told told_out)
 
 pub returns-clause-plain : goal.returns-clause-plain
 returns-clause-plain g c = λ told told_out.
-    let was = goal.Picker-dyn g (c.args.picker.now.vtable, c.args.picker.now.value) in
-    let left = goal.Picker-dyn g (c.answer-outcome.new.picker.vtable, c.answer-outcome.new.picker.value) in
-    let from = agents (was.rule c.args.picker.now.value) (was.state c.args.picker.now.value) in
-    let to = agents (left.rule c.answer-outcome.new.picker.value) (left.state c.answer-outcome.new.picker.value) in
-    done_printed (texts c.args.words.now) from to (outside g.S.Store g.O.Sink c.args.store.now c.args.out.now) (outside g.S.Store g.O.Sink c.answer-outcome.new.store c.answer-outcome.new.out)
+    done_printed (texts c.args.words.now) _ _ (outside g.S.Store g.O.Sink c.args.store.now c.args.out.now) (outside g.S.Store g.O.Sink c.answer-outcome.new.store c.answer-outcome.new.out)
     (command_of (texts c.args.words.now)) c.answer-outcome.result (returns-clause-done g c told told_out)
 
 pub returns-clause-headline : goal.returns-clause-headline
@@ -59,33 +46,21 @@ returns-clause-silent g c = λ told is.
 
 pub returns-clause-stands : goal.returns-clause-stands
 returns-clause-stands g c = λ told told_out.
-    let was = goal.Picker-dyn g (c.args.picker.now.vtable, c.args.picker.now.value) in
-    let left = goal.Picker-dyn g (c.answer-outcome.new.picker.vtable, c.answer-outcome.new.picker.value) in
-    let from = agents (was.rule c.args.picker.now.value) (was.state c.args.picker.now.value) in
-    let to = agents (left.rule c.answer-outcome.new.picker.value) (left.state c.answer-outcome.new.picker.value) in
-    ends_standing (texts c.args.words.now) from to (outside g.S.Store g.O.Sink c.args.store.now c.args.out.now) (outside g.S.Store g.O.Sink c.answer-outcome.new.store c.answer-outcome.new.out)
+    ends_standing (texts c.args.words.now) _ _ (outside g.S.Store g.O.Sink c.args.store.now c.args.out.now) (outside g.S.Store g.O.Sink c.answer-outcome.new.store c.answer-outcome.new.out)
     (command_of (texts c.args.words.now)) c.answer-outcome.result (c.answer-outcome.ensures.told told told_out)
 
 pub returns-clause-complete : goal.returns-clause-complete
 returns-clause-complete g c = λ told told_out clear none still.
-    let was = goal.Picker-dyn g (c.args.picker.now.vtable, c.args.picker.now.value) in
-    let left = goal.Picker-dyn g (c.answer-outcome.new.picker.vtable, c.answer-outcome.new.picker.value) in
-    let from = agents (was.rule c.args.picker.now.value) (was.state c.args.picker.now.value) in
-    let to = agents (left.rule c.answer-outcome.new.picker.value) (left.state c.answer-outcome.new.picker.value) in
-    ends_done (texts c.args.words.now) from to (outside g.S.Store g.O.Sink c.args.store.now c.args.out.now) (outside g.S.Store g.O.Sink c.answer-outcome.new.store c.answer-outcome.new.out)
+    ends_done (texts c.args.words.now) _ _ (outside g.S.Store g.O.Sink c.args.store.now c.args.out.now) (outside g.S.Store g.O.Sink c.answer-outcome.new.store c.answer-outcome.new.out)
     (command_of (texts c.args.words.now)) c.answer-outcome.result (c.answer-outcome.ensures.told told told_out) clear
     (no_fault (command_of (texts c.args.words.now)) _ _ _ _ c.answer-outcome.result c.answer-outcome.ensures.cause none still)
 
 pub returns-clause-steady : goal.returns-clause-steady
 returns-clause-steady g c = λ told told_out steady steady_out ready.
-    let was = goal.Picker-dyn g (c.args.picker.now.vtable, c.args.picker.now.value) in
-    let left = goal.Picker-dyn g (c.answer-outcome.new.picker.vtable, c.answer-outcome.new.picker.value) in
-    let from = agents (was.rule c.args.picker.now.value) (was.state c.args.picker.now.value) in
-    let to = agents (left.rule c.answer-outcome.new.picker.value) (left.state c.answer-outcome.new.picker.value) in
     let quiet = c.answer-outcome.ensures.quiet told steady steady_out ready in (
-      ends_done (texts c.args.words.now) from to (outside g.S.Store g.O.Sink c.args.store.now c.args.out.now) (outside g.S.Store g.O.Sink c.answer-outcome.new.store c.answer-outcome.new.out)
+      ends_done (texts c.args.words.now) _ _ (outside g.S.Store g.O.Sink c.args.store.now c.args.out.now) (outside g.S.Store g.O.Sink c.answer-outcome.new.store c.answer-outcome.new.out)
           (command_of (texts c.args.words.now)) c.answer-outcome.result (c.answer-outcome.ensures.told told told_out)
-          (ready_clear (texts c.args.words.now) from (command_of (texts c.args.words.now)) (g.S.Store.file c.args.store.now) ready) quiet.2,
+          (ready_clear (texts c.args.words.now) _ (command_of (texts c.args.words.now)) (g.S.Store.file c.args.store.now) ready) quiet.2,
       quiet.0,
       quiet.1,
     )

@@ -1,0 +1,11 @@
+pub mod Rules
+pub mod Looks
+pub mod Passed
+pub mod NegRule
+pub mod SubRule
+pub mod Moduli
+pub mod ScaleRule
+pub mod NoWorse
+pub mod Changing
+pub mod Ready
+pub mod Dropped
