@@ -4,7 +4,7 @@ use Rattle.heco_written.specs.World.{World}
 use Rattle.heco_written.specs.ScalarTerm.{ScalarTerm, Number, scalar_value}
 use Rattle.heco_written.specs.Proper.{IsProper, is_zero}
 use Rattle.heco_written.specs.VectorTerm.{slot_value}
-use Rattle.heco_written.specs.WrittenForm.{Home, Known, At, written, home_value, is_known, ElementsWithin}
+use Rattle.heco_written.specs.WrittenForm.{WrittenHome, Known, At, written, home_value, is_known, ElementsWithin}
 use Rattle.heco_written.proofs.WrittenLaw.{home_value-written}
 use Rattle.heco_written.proofs.MadeTerms.{is_known-written}
 use Rattle.heco_ir.specs.declared.vector.VNode.{VNode}
@@ -12,15 +12,15 @@ use Rattle.heco_ir.specs.Terms.{vector_at, vector_terms}
 use Rattle.heco_batch.specs.declared.home.NodeHome.{NodeHome}
 use Rattle.heco_batch.specs.declared.home.NodeHome.TheVariants.{Number as NumberNode, At as AtNode}
 use Rattle.heco_batch.specs.declared.written.NodeWritten.{NodeWritten}
-use Rattle.heco_batch.specs.Written.{WrittenIs}
-use Rattle.heco_batch.specs.Homes.{HomeIs, IsNoZero}
+use Rattle.heco_batch.specs.inside.Written.{WrittenIs}
+use Rattle.heco_batch.specs.inside.Homes.{HomeIs, IsNoZero}
 
 -- what a home among the nodes holds under given inputs
 abbrev pub node_home_value : World → List VNode → NodeHome → ℕ
 node_home_value w nodes (NumberNode c) = c
 node_home_value w nodes (AtNode d) = slot_value w (vector_at (vector_terms nodes) d.node) d.slot
 
-home_holds : (w : World) (nodes : List VNode) (d : NodeHome) (h : Home) → HomeIs nodes w.slots w.modulus d h → node_home_value w nodes d ≡ home_value w h
+home_holds : (w : World) (nodes : List VNode) (d : NodeHome) (h : WrittenHome) → HomeIs nodes w.slots w.modulus d h → node_home_value w nodes d ≡ home_value w h
 home_holds w nodes (NumberNode c) (Known e) i = i.0 ∙ sym (mod-eq_of_lt (rw i.0 at i.1))
 home_holds w nodes (AtNode d) (At p) i = ap (λ q. slot_value w q.vector q.slot) i.0.is
 home_holds w nodes (NumberNode c) (At p) i = absurd i
@@ -31,7 +31,7 @@ pub home_means : (w : World) (nodes : List VNode) (d : NodeHome) (x : ScalarTerm
     → HomeIs nodes w.slots w.modulus d (written w.modulus w.slots x).home → node_home_value w nodes d ≡ scalar_value w x
 home_means w nodes d x some room within i = home_holds w nodes d (written w.modulus w.slots x).home i ∙ home_value-written w some room x within
 
-known : (nodes : List VNode) (slots modulus c : ℕ) (h : Home) → is_known h ≡ false → HomeIs nodes slots modulus (NumberNode c) h → ⊥
+known : (nodes : List VNode) (slots modulus c : ℕ) (h : WrittenHome) → is_known h ≡ false → HomeIs nodes slots modulus (NumberNode c) h → ⊥
 known nodes slots modulus c (Known d) e i = cc
 known nodes slots modulus c (At p) e i = i
 

@@ -16,8 +16,8 @@ use Rattle.heco_ir.proofs.Unique.{vector_terms-at, input_node}
 use Rattle.heco_batch.specs.declared.home.NodeHome.{NodeHome}
 use Rattle.heco_batch.specs.declared.home.NodeHome.TheVariants.{Number as NumberNode, At as AtNode}
 use Rattle.heco_batch.specs.declared.written.NodeWritten.{NodeWritten}
-use Rattle.heco_batch.specs.Homes.{HomeIs}
-use Rattle.heco_batch.specs.Written.{WrittenIs}
+use Rattle.heco_batch.specs.inside.Homes.{HomeIs}
+use Rattle.heco_batch.specs.inside.Written.{WrittenIs}
 use Rattle.heco_batch.specs.Table.{TableIs, HasInputs}
 use Rattle.heco_batch.proofs.RootsAdded.{table_long}
 use Rattle.heco_batch.proofs.TableRead.{table_at, term_here}

@@ -12,8 +12,8 @@ use Rattle.heco_ir.proofs.Extended.{term_stands, extends_length}
 use Rattle.heco_batch.specs.declared.place.NodeSlot.{NodeSlot}
 use Rattle.heco_batch.specs.declared.place.NodeRun.{NodeRun}
 use Rattle.heco_batch.specs.declared.sum.NodePlaces.{NodePlaces}
-use Rattle.heco_batch.specs.Places.{place_at, run_at, place_at_option, PlaceIs, OptionWithin}
-use Rattle.heco_batch.specs.Sums.{RunIs, ArePlaces}
+use Rattle.heco_batch.specs.inside.Places.{place_at, run_at, place_at_option, PlaceIs, OptionWithin}
+use Rattle.heco_batch.specs.inside.Sums.{RunIs, ArePlaces}
 use Rattle.heco_batch.proofs.Placed.{option_stands}
 
 pub run_stands : {m : ℕ} {a b : List VNode} (slots : ℕ) (d : NodeRun) (r : Run) → Extends m a b → RunIs a slots d r → RunIs b slots d r

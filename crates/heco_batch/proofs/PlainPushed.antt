@@ -1,6 +1,5 @@
 -- One more node, of scalar nodes without numbers.
-use Rattle.std.proofs.Common.{◌≡◌, ℕ, zero, suc, ◌+◌, ◌<◌, ◌≤◌, List, [], ◌∷◌, ◌++◌, refl, arith, true, false, get_or, length-append, ◌⊎◌, inl, inr}
-use Rattle.std.specs.Prelude.{slice_get, Some, Contains}
+use Rattle.std.proofs.Common.{◌≡◌, ℕ, ◌+◌, ◌<◌, ◌≤◌, List, [], ◌∷◌, ◌++◌, refl, arith, true, false, get_or, length-append, inl, inr}
 use Rattle.std.proofs.lemmas.Bool.{lt-ltb}
 use Rattle.std.proofs.lemmas.Option.{slice_get-get_or}
 use Rattle.std.proofs.lemmas.List.Elements.{Contains-append_cases}
@@ -11,6 +10,7 @@ use Rattle.heco_ir.specs.Values.{all_below}
 use Rattle.heco_ir.specs.Scalars.{scalar_operands}
 use Rattle.heco_ir.specs.Terms.{scalar_terms, scalar_term_over, scalar_at}
 use Rattle.heco_ir.proofs.Built.{both, built-push, length-built}
+use Rattle.heco_ir.proofs.OneMore.{at_end, is_only}
 use Rattle.heco_ir.specs.Unrolled.{AllMade, operation}
 use Rattle.heco_batch.specs.Plain.{IsPlain, ArePlain}
 use Rattle.heco_batch.proofs.TableRead.{operations-append}
@@ -50,16 +50,6 @@ operation-most (Num c) = omega arith
 operation-most (Elem a i) = omega arith
 operation-most n = omega arith
 
-at_end : {X : Type 0} (xs : List X) (n : X) (k : ℕ) (x : X) → slice_get (xs ++ n ∷ []) k ≡ Some x → (slice_get xs k ≡ Some x) ⊎ (x ≡ n)
-at_end [] n zero x h = inr cc
-at_end [] n (suc k) x h = cc
-at_end (y ∷ xs) n zero x h = inl h
-at_end (y ∷ xs) n (suc k) x h = at_end xs n k x h
-
-is_end : (n m : SNode) → Contains (n ∷ []) m → n ≡ m
-is_end n m (zero, l, e) = e
-is_end n m (suc k, l, e) = absurd (omega arith)
-
 module _ {modulus slots count : ℕ} {ns : List SNode} (h : ArePlain modulus slots count ns) where
   at_operand : (x : ℕ) → x < count → IsMade modulus slots (get_or (scalar_terms ns) x (Number 0)) × (is_number (get_or (scalar_terms ns) x (Number 0)) ≡ false)
   at_operand x l = h.made x (get_or (scalar_terms ns) x (Number 0)) (slice_get-get_or (scalar_terms ns) x (Number 0) (omega (arith, h.many, length-built scalar_term_over ns)))
@@ -93,12 +83,12 @@ module _ {modulus slots count : ℕ} {ns : List SNode} (h : ArePlain modulus slo
     made = λ k x e.
         elim (at_end (scalar_terms ns) (scalar_term_over (scalar_terms ns) n) k x (rw (built-push scalar_term_over ns n) at e)) [
           | inl a ↦ h.made k x a
-          | inr b ↦ rw b (term_made n p)
+          | inr b ↦ rw (b.1) (term_made n p)
         ];
     elements = λ a i c.
         elim (Contains-append_cases ns (n ∷ []) (Elem a i) c) [
           | inl b ↦ h.elements a i b
-          | inr b ↦ element_below n a i p (is_end n (Elem a i) b)
+          | inr b ↦ element_below n a i p (is_only n (Elem a i) b)
         ];
     few = omega (arith, h.few, operations-append ns n, operation-most n);
   }

@@ -5,7 +5,7 @@ use Rattle.std.proofs.lemmas.List.{take_more, map-append, length-take-le}
 use Rattle.std.proofs.Math.Seq.{take-length}
 use Rattle.heco_written.specs.ScalarTerm.{ScalarTerm, Number}
 use Rattle.heco_written.specs.VectorTerm.{Input}
-use Rattle.heco_written.specs.WrittenForm.{Home as WrittenHome, Known, At as AtPlace, Place, places, vectors_of, written}
+use Rattle.heco_written.specs.WrittenForm.{WrittenHome, Known, At as AtPlace, Place, places, vectors_of, written}
 use Rattle.heco_ir.specs.declared.dialect.NodeId.{NodeId}
 use Rattle.heco_ir.specs.declared.home.Home.{Home}
 use Rattle.heco_ir.specs.declared.home.Home.TheVariants.{Number as NumberHome, At}
@@ -19,10 +19,11 @@ use Rattle.heco_ir.proofs.Means.{below_append, earlier_at, numbers-append}
 use Rattle.heco_batch.specs.declared.place.NodeSlot.{NodeSlot}
 use Rattle.heco_batch.specs.declared.home.NodeHome.TheVariants.{Number as NumberNode, At as AtNode}
 use Rattle.heco_batch.specs.declared.written.NodeWritten.{NodeWritten}
-use Rattle.heco_batch.specs.Homes.{HomeIs}
+use Rattle.heco_batch.specs.inside.Homes.{HomeIs}
 use Rattle.heco_batch.specs.Table.{TableIs}
 use Rattle.heco_ir.specs.Unrolled.{root_terms}
-use Rattle.heco_batch.specs.Roots.{written_homes, homes_from, HomeFits, AllHomesFit, RootsAre}
+use Rattle.heco_batch.specs.Roots.{written_homes, homes_from, RootsAre}
+use Rattle.heco_ir.specs.Homes.{HomeFits, AllHomesFit}
 use Rattle.heco_batch.proofs.HomesAdded.{places-known, places-at}
 
 -- the nodes so far are the first of the set

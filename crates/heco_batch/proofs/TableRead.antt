@@ -16,7 +16,7 @@ use Rattle.heco_written.specs.ScalarTerm.{ScalarTerm, Number}
 use Rattle.heco_ir.specs.declared.vector.VNode.{VNode}
 use Rattle.heco_ir.specs.Terms.{Extends, scalar_term_over, scalar_terms}
 use Rattle.heco_batch.specs.declared.written.NodeWritten.{NodeWritten}
-use Rattle.heco_batch.specs.Written.{WrittenIs}
+use Rattle.heco_batch.specs.inside.Written.{WrittenIs}
 use Rattle.heco_ir.specs.Unrolled.{AllMade, AllElementsBelow, operation, operations}
 use Rattle.heco_batch.specs.Table.{TableIs}
 use Rattle.heco_batch.proofs.FewNodes.{few_nodes}

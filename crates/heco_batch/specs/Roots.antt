@@ -1,11 +1,12 @@
 -- The homes of roots: numbers, or slots of numbered vectors.
-use Rattle.std.specs.Prelude.{ℕ, ◌+◌, ◌<◌, ◌≡◌, true, List, [], ◌∷◌, map, length}
+use Rattle.std.specs.Prelude.{ℕ, ◌+◌, ◌≡◌, true, List, [], ◌∷◌, map, length}
 use Rattle.heco_written.specs.ScalarTerm.{ScalarTerm}
-use Rattle.heco_written.specs.WrittenForm.{Home as WrittenHome, Known, At as AtPlace, places, vectors_of, written}
+use Rattle.heco_written.specs.WrittenForm.{WrittenHome, Known, At as AtPlace, places, vectors_of, written}
 use Rattle.heco_ir.specs.declared.dialect.NodeId.{NodeId}
 use Rattle.heco_ir.specs.declared.home.Home.{Home}
 use Rattle.heco_ir.specs.declared.home.Home.TheVariants.{Number as NumberHome, At}
 use Rattle.heco_ir.specs.declared.vector.VNode.{VNode}
+use Rattle.heco_ir.specs.Homes.{AllHomesFit}
 use Rattle.heco_ir.specs.Values.{all_below, numbers}
 use Rattle.heco_ir.specs.Terms.{terms_at}
 
@@ -18,14 +19,6 @@ abbrev pub homes_from : ℕ → List WrittenHome → List Home
 homes_from next [] = []
 homes_from next (Known c ∷ hs) = NumberHome c ∷ homes_from next hs
 homes_from next (AtPlace p ∷ hs) = At next p.slot ∷ homes_from (next + 1) hs
-
-abbrev pub HomeFits : ℕ → ℕ → Home → Type 0
-HomeFits slots modulus (NumberHome c) = c < modulus
-HomeFits slots modulus (At root slot) = slot < slots
-
-abbrev pub AllHomesFit : ℕ → ℕ → List Home → Type 0
-AllHomesFit slots modulus [] = Unit {0}
-AllHomesFit slots modulus (h ∷ hs) = HomeFits slots modulus h × AllHomesFit slots modulus hs
 
 -- these roots and homes are those of the written homes
 pub record RootsAre (nodes : List VNode) (slots modulus : ℕ) (roots : List NodeId) (homes : List Home) (hs : List WrittenHome) : Type 0 where

@@ -5,7 +5,7 @@ use Rattle.heco_ir.specs.declared.scalar.SNode.{SNode}
 use Rattle.heco_ir.specs.declared.scalar.SNode.TheVariants.{Elem}
 use Rattle.heco_ir.specs.declared.vector.VNode.TheVariants.{Input}
 use Rattle.heco_batch.specs.declared.written.NodeWritten.{NodeWritten}
-use Rattle.heco_batch.specs.Written.{WrittenIs}
+use Rattle.heco_batch.specs.inside.Written.{WrittenIs}
 
 -- the written forms of terms, in order
 abbrev pub TableIs : List VNode → ℕ → ℕ → List NodeWritten → List ScalarTerm → Type 0

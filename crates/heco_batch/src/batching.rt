@@ -1,18 +1,19 @@
 ghost use Rattle.std.specs.Prelude.{◌≡◌, ℕ, ◌+◌, ◌*◌, ◌^◌, ◌<◌, ◌≤◌, List as Seq, ◌∷◌, [], ◌++◌, length, IfOk, OnOk, true};
-ghost use Rattle.heco_written.specs.WrittenForm.{Home as WrittenHome, vectors_of};
+ghost use Rattle.heco_written.specs.WrittenForm.{WrittenHome, vectors_of};
 ghost use Rattle.heco_ir.specs.declared.vector.VNode.{VNode};
 ghost use Rattle.heco_ir.specs.Ranges.{AllFit, gates_of_nodes};
 ghost use Rattle.heco_ir.specs.Used.{EachOnce};
 ghost use Rattle.heco_ir.specs.Values.{all_below, numbers};
 ghost use Rattle.heco_ir.specs.Terms.{scalar_terms, terms_at};
-ghost use Rattle.heco_batch.specs.Homes.{HomeIs};
+ghost use Rattle.heco_batch.specs.inside.Homes.{HomeIs};
 ghost use Rattle.heco_ir.specs.Unrolled.{AllMade, AllElementsBelow, operations, root_terms};
 ghost use Rattle.heco_batch.specs.Table.{TableIs, HasInputs};
-ghost use Rattle.heco_batch.specs.Roots.{RootsAre, written_homes, homes_from, AllHomesFit};
+ghost use Rattle.heco_batch.specs.Roots.{RootsAre, written_homes, homes_from};
+ghost use Rattle.heco_ir.specs.Homes.{AllHomesFit};
 
+use crate::batcher::Batcher;
 use crate::home::NodeHome;
 use crate::place::NodeSlot;
-use crate::table::table_of;
 use crate::written::NodeWritten;
 use bumpalo::Bump;
 use heco_cse::Cons;
@@ -26,10 +27,7 @@ fn nodes_of<'b>(c: &Cons, b: &'b Bump) -> Result<Builder<'b, Vector>, Memory>
 {
     let mut nodes = Builder::<Vector>::open(b);
     for i in 0..c.len() {
-        match nodes.push(c.get(NodeId(i))) {
-            Ok(_) => {}
-            Err(e) => return Err(e),
-        }
+        nodes.push(c.get(NodeId(i)))?;
     }
     Ok(nodes)
 }
@@ -42,65 +40,48 @@ fn place_added(roots: &mut List<NodeId>, homes: &mut Homes, d: NodeSlot) -> Resu
     ensures few { length roots.new ≤ length roots.old + 1 }
 {
     let root = roots.len() as u32;
-    match roots.push(d.node) {
-        Ok(()) => homes.push(Home::At { root, slot: d.slot }),
-        Err(e) => Err(e),
-    }
+    roots.push(d.node)?;
+    homes.push(Home::At { root, slot: d.slot })
 }
 
-/// One home more.
-fn home_added(
-    slots: u16,
-    modulus: u32,
-    roots: &mut List<NodeId>,
-    homes: &mut Homes,
-    h: NodeHome,
-) -> Result<(), Memory>
-    requires few { length roots.old < 2 ^ 20 }
-    ensures roots { (nodes : Seq VNode) (hs : Seq WrittenHome) (k : WrittenHome) → RootsAre nodes slots modulus roots.old homes.old hs → HomeIs nodes slots modulus h k
-        → OnOk result (RootsAre nodes slots modulus roots.new homes.new (hs ++ k ∷ [])) }
-    ensures few { length roots.new ≤ length roots.old + 1 }
-{
-    match h {
-        NodeHome::Number(c) => match homes.push(Home::Number(c)) {
-            Ok(()) => Ok(()),
-            Err(e) => Err(e),
-        },
-        NodeHome::At(d) => match place_added(roots, homes, d) {
-            Ok(()) => Ok(()),
-            Err(e) => Err(e),
-        },
-    }
-}
-
-/// The roots and the homes of all roots of the scalar IR, in order.
-fn roots_of(
-    alloc: Global,
-    c: &Cons,
-    slots: u16,
-    modulus: u32,
-    ir: &Ir<'_, Scalar>,
-    table: &[NodeWritten],
-) -> Result<(List<NodeId>, Homes), Memory>
-    requires table { TableIs c.now slots modulus table.now (scalar_terms ir.now.0) }
-    requires few { length ir.now.1 ≤ 2 ^ 20 }
-    ensures { IfOk result (λ r. RootsAre c.now slots modulus r.0 r.1 (written_homes modulus slots (root_terms ir.now.0 ir.now.1))) }
-{
-    let mut roots = List::new(alloc);
-    let mut homes = List::new(alloc);
-    for root in ir.roots().as_slice() {
-        match home_added(
-            slots,
-            modulus,
-            &mut roots,
-            &mut homes,
-            table[root.0 as usize].home,
-        ) {
-            Ok(()) => {}
-            Err(e) => return Err(e),
+impl Batcher {
+    /// One home more.
+    fn home_added(
+        self,
+        roots: &mut List<NodeId>,
+        homes: &mut Homes,
+        h: NodeHome,
+    ) -> Result<(), Memory>
+        requires few { length roots.old < 2 ^ 20 }
+        ensures roots { (nodes : Seq VNode) (hs : Seq WrittenHome) (k : WrittenHome) → RootsAre nodes self.slots self.modulus roots.old homes.old hs → HomeIs nodes self.slots self.modulus h k
+            → OnOk result (RootsAre nodes self.slots self.modulus roots.new homes.new (hs ++ k ∷ [])) }
+        ensures few { length roots.new ≤ length roots.old + 1 }
+    {
+        match h {
+            NodeHome::Number(c) => homes.push(Home::Number(c)),
+            NodeHome::At(d) => place_added(roots, homes, d),
         }
     }
-    Ok((roots, homes))
+
+    /// The roots and the homes of all roots of the scalar IR, in order.
+    fn roots_of(
+        self,
+        alloc: Global,
+        c: &Cons,
+        ir: &Ir<'_, Scalar>,
+        table: &[NodeWritten],
+    ) -> Result<(List<NodeId>, Homes), Memory>
+        requires table { TableIs c.now self.slots self.modulus table.now (scalar_terms ir.now.0) }
+        requires few { length ir.now.1 ≤ 2 ^ 20 }
+        ensures { IfOk result (λ r. RootsAre c.now self.slots self.modulus r.0 r.1 (written_homes self.modulus self.slots (root_terms ir.now.0 ir.now.1))) }
+    {
+        let mut roots = List::new(alloc);
+        let mut homes = List::new(alloc);
+        for root in ir.roots().as_slice() {
+            self.home_added(&mut roots, &mut homes, table[root.0 as usize].home)?;
+        }
+        Ok((roots, homes))
+    }
 }
 
 /// The scalar IR as vectors: one home for each root, in order, as its term's written form says, which is a number or a
@@ -124,19 +105,10 @@ pub fn batch<'b>(
     ensures homes_fit { IfOk result (λ r. AllHomesFit p.now.slots p.now.t r.1) }
 {
     let mut c = Cons::open(alloc);
-    let slots = p.slots as u16;
-    let table = match table_of(alloc, &mut c, slots, p.t, ir) {
-        Ok(table) => table,
-        Err(e) => return Err(e),
-    };
-    let nodes = match nodes_of(&c, b) {
-        Ok(nodes) => nodes,
-        Err(e) => return Err(e),
-    };
-    let (roots, homes) = match roots_of(alloc, &c, slots, p.t, ir, &table) {
-        Ok(found) => found,
-        Err(e) => return Err(e),
-    };
-    let _ = c.len();
+    let batcher = Batcher::of(p);
+    let table = batcher.table_of(alloc, &mut c, ir)?;
+    let nodes = nodes_of(&c, b)?;
+    let (roots, homes) = batcher.roots_of(alloc, &c, ir, &table)?;
+    let _valid = c.len();
     Ok((nodes.finish(roots), homes))
 }

@@ -1,6 +1,7 @@
 //! Scalar terms as slots of vectors.
 #![tactic(auto)]
 
+mod batcher;
 mod batching;
 mod home;
 mod place;

@@ -46,13 +46,9 @@ impl<'b> Scalars<'b> {
         if !is_plain(self.p.slots, self.count, n) || self.count >= 524288 {
             return Err(Memory);
         }
-        match self.nodes.push(n) {
-            Ok(id) => {
-                self.count += 1;
-                Ok(id)
-            }
-            Err(e) => Err(e),
-        }
+        let id = self.nodes.push(n)?;
+        self.count += 1;
+        Ok(id)
     }
 
     pub fn batched<'c>(
@@ -68,9 +64,7 @@ impl<'b> Scalars<'b> {
             return Err(Memory);
         }
         let mut roots = List::new(alloc);
-        match roots.push(root) {
-            Ok(()) => batch(alloc, &nodes.finish(roots), &p, c),
-            Err(e) => Err(e),
-        }
+        roots.push(root)?;
+        batch(alloc, &nodes.finish(roots), &p, c)
     }
 }

@@ -1,13 +1,12 @@
 -- The slots of messages, at each place of the list of slots.
 use Prim.Native.Nat.{ℕ, ◌+◌, ◌-◌, ◌*◌, ◌%◌, ◌<◌}
-use native.Mathlib.Omega.{arith}
 use native.Mathlib.Nat.{mod-lt}
 use mathlib.Core.Path.{◌≡◌, refl, ◌∙◌}
 use mathlib.Core.List.{List}
 use lib.ListN.{length, get_or}
 use Rattle.std.specs.Prelude.{All}
 use Rattle.heco_nums.specs.declared.preset.Preset.{Preset}
-use Rattle.heco_nums.proofs.PresetFacts.{facts}
+use Rattle.heco_nums.proofs.PresetFacts.{some_slots}
 use Rattle.heco_slots.specs.Messages as message
 use Rattle.heco_slots.specs.Rows.{slot_in}
 use Rattle.heco_slots.specs.Slots.{decoded}
@@ -39,12 +38,9 @@ product_slot p m l j h = rw (slot_at p (message.product p m l) j h, slot_at p m 
 pub weighed_slot : (p : Preset) (v m : List ℕ) (j : ℕ) → length v ≡ p.slots → All (λ x. x < p.t) v → j < p.slots → get_or (decoded p (message.weighed p v m)) j 0 ≡ get_or v j 0 * get_or (decoded p m) j 0 % p.t
 weighed_slot p v m j long below h = rw (slot_at p (message.weighed p v m) j h, slot_at p m j h) (first_weighed p v m j long below h)
 
-slots_pos : (n s : ℕ) → 0 < n → n ≡ 2 * s → 0 < s
-slots_pos n s p e = omega arith
-
 pub turned_slot : (p : Preset) (r : ℕ) (m : List ℕ) (j : ℕ) → j < p.slots → get_or (decoded p (message.turned p r m)) j 0 ≡ get_or (decoded p m) ((j + r) % p.slots) 0
 turned_slot p r m j h =
-    let s : 0 < p.slots = slots_pos p.n p.slots (facts p).n_pos (facts p).slots_half in
+    let s : 0 < p.slots = some_slots p in
     let w : (j + r) % p.slots < p.slots = mod-lt (j + r) s in
     rw (slot_at p (message.turned p r m) j h, slot_at p m ((j + r) % p.slots) w) (in_turned p 1 r m j refl)
 

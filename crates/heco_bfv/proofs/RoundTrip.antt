@@ -12,7 +12,7 @@ use Rattle.heco_nums.proofs.PresetFacts.{facts}
 use Rattle.heco_noise.specs.Rows as row
 use Rattle.heco_slots.specs.Slots.{decoded, encoded}
 use Rattle.heco_slots.proofs.PresetSlots.{decoded_encoded}
-use Rattle.heco_scheme.specs.Bounds.{AreErrors, IsSparse}
+use Rattle.heco_nums.specs.MaterialBounds.{AreErrors, IsSparse}
 use Rattle.heco_scheme.specs.Encryption.{decrypted, encrypted}
 use Rattle.heco_scheme.specs.Keys.{key_part, IsPublicKey}
 use Rattle.heco_scheme.proofs.FreshNoise.{encrypted_noise, decrypted_is}

@@ -4,7 +4,7 @@ ghost use Rattle.heco_noise.specs.Rows as row;
 ghost use Rattle.heco_ring.specs.Remainders.{reduced};
 ghost use Rattle.heco_ring.specs.Ring.{wholes, plus, times};
 ghost use Rattle.heco_slots.specs.Slots.{encoded};
-ghost use Rattle.heco_scheme.specs.Bounds.{AreErrors, IsSparse};
+ghost use Rattle.heco_nums.specs.MaterialBounds.{AreErrors, IsSparse};
 ghost use Rattle.heco_scheme.specs.Ciphertexts.{IsCiphertext};
 ghost use Rattle.heco_scheme.specs.Encryption.{encrypted, scaled_all};
 ghost use Rattle.heco_scheme.specs.Keys.{IsPublicKey};

@@ -3,7 +3,7 @@ ghost use lib.IntN.{ℤ};
 ghost use Rattle.heco_nums.specs.declared.preset.Preset.{Preset};
 ghost use Rattle.heco_slots.specs.Messages as message;
 ghost use Rattle.heco_slots.specs.Slots.{decoded, encoded};
-ghost use Rattle.heco_scheme.specs.Bounds.{AreErrors, IsSparse};
+ghost use Rattle.heco_nums.specs.MaterialBounds.{AreErrors, IsSparse};
 ghost use Rattle.heco_scheme.specs.Encryption.{decrypted, encrypted};
 ghost use Rattle.heco_scheme.specs.Keys.{IsPublicKey};
 

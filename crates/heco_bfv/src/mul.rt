@@ -5,7 +5,7 @@ ghost use Rattle.heco_slots.specs.Messages as message;
 ghost use Rattle.heco_scheme.specs.Ciphertexts.{IsCiphertext};
 ghost use Rattle.heco_scheme.specs.Gates as gate;
 ghost use Rattle.heco_scheme.specs.Noise.{noise};
-ghost use Rattle.heco_scheme.specs.Bounds.{IsSparse};
+ghost use Rattle.heco_nums.specs.MaterialBounds.{IsSparse};
 
 use crate::{Ct, Gates};
 
@@ -25,10 +25,10 @@ impl Gates {
         ensures noise { (s : List ℤ) (m l : List ℕ) (E F : ℕ) → IsSparse self.old.preset.n self.old.preset.h s → row.IsQuiet E → row.IsQuiet F → noise self.old.preset s a.now m ≤ E
             → noise self.old.preset s b.now l ≤ F → noise self.old.preset s out.new (message.product self.old.preset m l) ≤ row.multiplied self.old.preset.n self.old.preset.t self.old.preset.h E F }
     {
-        let _ = a.first.as_slice();
-        let _ = a.second.as_slice();
-        let _ = b.first.as_slice();
-        let _ = b.second.as_slice();
+        let _valid = a.first.as_slice();
+        let _valid = a.second.as_slice();
+        let _valid = b.first.as_slice();
+        let _valid = b.second.as_slice();
         match &mut out.third {
             Some(third) => self.tensor.product(
                 &a.first,

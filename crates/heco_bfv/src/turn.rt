@@ -4,7 +4,7 @@ ghost use Rattle.heco_noise.specs.Rows as row;
 ghost use Rattle.heco_slots.specs.Messages as message;
 ghost use Rattle.heco_scheme.specs.Ciphertexts.{IsCiphertext};
 ghost use Rattle.heco_scheme.specs.Gates as gate;
-ghost use Rattle.heco_scheme.specs.Keys.{AreRows, IsSwitchKey, turned};
+ghost use Rattle.heco_scheme.specs.Keys.{AreRows, IsSwitchKey, turned_secret};
 ghost use Rattle.heco_scheme.specs.Noise.{noise};
 
 use crate::{Ct, Gates};
@@ -24,7 +24,7 @@ impl Gates {
         ensures ciphertext { IsCiphertext self.old.preset.n out.new }
         ensures count { length out.new ≡ 2 }
         ensures formula { out.new ≡ gate.turned self.old.preset r k.now.rows a.now }
-        ensures noise { (s : List ℤ) (m : List ℕ) (E : ℕ) → IsSwitchKey self.old.preset.n self.old.preset.b s (turned self.old.preset.n s r) k.now.rows → noise self.old.preset s a.now m ≤ E
+        ensures noise { (s : List ℤ) (m : List ℕ) (E : ℕ) → IsSwitchKey self.old.preset.n self.old.preset.b s (turned_secret self.old.preset.n s r) k.now.rows → noise self.old.preset s a.now m ≤ E
             → noise self.old.preset s out.new (message.turned self.old.preset r m) ≤ row.turned self.old.preset.t self.old.preset.n self.old.preset.b E }
     {
         let g = exponent(&self.preset, r);

@@ -4,13 +4,11 @@ ghost use Rattle.heco_ring.specs.Remainders.{reduced};
 ghost use Rattle.heco_ring.specs.Ring.{wholes, plus};
 ghost use Rattle.heco_transform.specs.Halves.{AreSums, SumsFit};
 
-use heco_nums::{Memory, Preset};
+use heco_nums::{Memory, Preset, Q_MASK};
 use heco_poly::Poly;
 use heco_transform::{HalfSums, Transform};
 use std::alloc::Global;
 use std::marker::Model;
-
-const MASK: u64 = (1 << 58) - 1;
 
 /// Room for the words of a polynomial: contracts see their list.
 #[derive(Debug, Drop)]
@@ -77,7 +75,7 @@ impl Words {
         ensures long { length out.new ≡ length out.old }
     {
         for k in 0..out.len() {
-            out.set(k, self.places[k as usize] & MASK);
+            out.set(k, self.places[k as usize] & Q_MASK);
         }
     }
 }

@@ -6,7 +6,7 @@ use Rattle.std.proofs.lemmas.List.Elements.{All-nil, All-cons, All-head, All-tai
 use Rattle.heco_fields.specs.Formats.{Value, ◌>>=◌ as ◌then◌}
 use Rattle.heco_fields.proofs.Laws.{Law, then_law, last_law, same_law}
 use Rattle.heco_fields.proofs.ManyLaws.{each_law}
-use Rattle.heco_scheme.specs.Bounds.{AreWords}
+use Rattle.heco_nums.specs.MaterialBounds.{AreWords}
 use Rattle.heco_lists.specs.ListFormat.{words, words_text}
 use Rattle.heco_lists.proofs.ListLaws.{words_law}
 use Rattle.heco_ciphertext_files.specs.CiphertextFiles.{ciphertext, ciphertexts, ciphertext_text, ciphertexts_text, IsTwoParts, AreCiphertexts}

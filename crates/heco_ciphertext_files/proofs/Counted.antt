@@ -9,8 +9,8 @@ use Rattle.heco_fields.specs.Readings.{Reading, reading, judged}
 use Rattle.heco_fields.proofs.Steps.{reading_then}
 use Rattle.heco_fields.proofs.FirstBroken.{breaks_judged}
 use Rattle.heco_fields.proofs.Laws.{IsBytes, Law}
-use Rattle.heco_key_files.specs.declared.error.FileErr.{FileErr}
-use Rattle.heco_key_files.specs.declared.error.FileErr.TheVariants.{Malformed, WrongPreset, Count, Memory}
+use Rattle.heco_lists.specs.declared.error.FileErr.{FileErr}
+use Rattle.heco_lists.specs.declared.error.FileErr.TheVariants.{Malformed, WrongPreset, Count, Memory}
 use Rattle.heco_key_files.specs.Judging.{placed, wanted, behind, body_as, Answers, NamesPreset, NamesNoOther}
 use Rattle.heco_key_files.proofs.Headers.{Reads, header_read, reads_names, text_read, names_one, names_none}
 use Rattle.heco_key_files.proofs.Judged.{refusal_is, placed_err, body_text, answers}

@@ -4,7 +4,7 @@ use Rattle.std.specs.Prelude.{IfOk}
 use Rattle.std.specs.Int.{w32, to_be_bytes}
 use Rattle.heco_fields.specs.Formats.{header_text}
 use Rattle.heco_fields.proofs.Laws.{IsBytes}
-use Rattle.heco_key_files.specs.declared.error.FileErr.{FileErr}
+use Rattle.heco_lists.specs.declared.error.FileErr.{FileErr}
 use Rattle.heco_key_files.specs.Judging.{Answers}
 use Rattle.heco_key_files.proofs.Judged.{value_is}
 use Rattle.heco_ciphertext_files.specs.Counted.{counted_as, NamesCount}

@@ -3,8 +3,8 @@ use Rattle.std.specs.Prelude.{◌≡◌, ℕ, List, [], ◌∷◌, ◌++◌, len
 use Rattle.std.specs.List.{flat_map}
 use Rattle.std.specs.Int.{w32, to_be_bytes}
 use Rattle.heco_fields.specs.Formats.{Format, Value, many, header_text, ◌>>=◌}
-use Rattle.heco_fields.specs.Runs.{stays}
-use Rattle.heco_scheme.specs.Bounds.{AreWords}
+use Rattle.heco_nums.specs.Runs.{stays}
+use Rattle.heco_nums.specs.MaterialBounds.{AreWords}
 use Rattle.heco_lists.specs.ListFormat.{words, words_text}
 use Rattle.heco_ciphertext_files.specs.declared.kind.FileKind.{FileKind}
 use Rattle.heco_ciphertext_files.specs.declared.kind.FileKind.TheVariants.{Cts, Res}

@@ -4,8 +4,8 @@ use Rattle.std.specs.Int.{w32, to_be_bytes}
 use Rattle.heco_fields.specs.Formats.{Format, BreaksAt, any, header, header_text, ◌>>=◌}
 use Rattle.heco_fields.specs.Readings.{reading}
 use Rattle.heco_key_files.specs.Judging.{wanted, behind, header_as, body_as, NamesPreset, NamesNoOther}
-use Rattle.heco_key_files.specs.declared.error.FileErr.{FileErr}
-use Rattle.heco_key_files.specs.declared.error.FileErr.TheVariants.{Malformed, WrongPreset, Count, Memory}
+use Rattle.heco_lists.specs.declared.error.FileErr.{FileErr}
+use Rattle.heco_lists.specs.declared.error.FileErr.TheVariants.{Malformed, WrongPreset, Count, Memory}
 
 abbrev pub count_as : List ℕ → ℕ → List ℕ → Result (List ℕ) FileErr
 count_as bytes want rest = wanted bytes want (λ found. Count want found) (reading (any w32) rest)

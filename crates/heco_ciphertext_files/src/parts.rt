@@ -1,6 +1,6 @@
 ghost use Rattle.std.specs.Prelude.{◌≡◌, ◌++◌, ◌∷◌, [], All, OnOk, length};
 ghost use Rattle.heco_fields.specs.Readings.{Gives, reading};
-ghost use Rattle.heco_scheme.specs.Bounds.{AreWords};
+ghost use Rattle.heco_nums.specs.MaterialBounds.{AreWords};
 ghost use Rattle.heco_scheme.specs.Ciphertexts.{IsCiphertext};
 ghost use Rattle.heco_ciphertext_files.specs.CiphertextFiles.{IsTwoParts, ciphertext, ciphertext_text};
 

@@ -1,7 +1,7 @@
 ghost use Rattle.std.specs.Prelude.{◌≡◌, ◌≢◌, ℕ, [], List as Seq, IfOk, IfErr};
 ghost use Rattle.heco_fields.specs.Formats.{BreaksAt};
 ghost use Rattle.heco_fields.specs.Readings.{Gives, reading};
-ghost use Rattle.heco_key_files.specs.declared.error.FileErr.TheVariants.{Count, Malformed, WrongPreset};
+ghost use Rattle.heco_lists.specs.declared.error.FileErr.TheVariants.{Count, Malformed, WrongPreset};
 ghost use Rattle.heco_key_files.specs.Judging.{Answers, NamesNoOther, NamesPreset, body_as};
 ghost use Rattle.heco_ciphertext_files.specs.CiphertextFiles.{AreCiphertexts, ciphertexts, file_text, magic_of};
 ghost use Rattle.heco_ciphertext_files.specs.Counted.{CountsNoOther, HasCountedCause, NamesCount, behind_count, count_as, counted_as, whole_counted};
@@ -10,7 +10,8 @@ use crate::kind::FileKind;
 use crate::parts::ciphertext_at;
 use heco_bfv::Ct;
 use heco_fields::{Fault, u32_at};
-use heco_key_files::{FileErr, behind_header, place};
+use heco_key_files::{behind_header, broken_at};
+use heco_lists::FileErr;
 use heco_nums::{List, Preset};
 use std::alloc::Global;
 
@@ -26,7 +27,7 @@ fn behind_wanted<'a>(want: u32, bytes: &[u8], rest: &'a [u8]) -> Result<&'a [u8]
             }
             Ok(last)
         }
-        Err(Fault::Broken { left }) => Err(place(bytes, left)),
+        Err(Fault::Broken { left }) => Err(broken_at(bytes, left)),
         Err(Fault::Memory) => Err(FileErr::Memory),
     }
 }
@@ -63,11 +64,11 @@ fn body(
     match ciphertexts_at(alloc, p, want, rest) {
         Ok((list, beyond)) => {
             if beyond.len() > 0 {
-                return Err(place(bytes, beyond.len() as u64));
+                return Err(broken_at(bytes, beyond.len() as u64));
             }
             Ok(list)
         }
-        Err(Fault::Broken { left }) => Err(place(bytes, left)),
+        Err(Fault::Broken { left }) => Err(broken_at(bytes, left)),
         Err(Fault::Memory) => Err(FileErr::Memory),
     }
 }

@@ -8,9 +8,9 @@ use Rattle.heco_nums.specs.Presets.{modulus_of, slots_of}
 use Rattle.heco_nums.specs.declared.shape.Shape.{Shape}
 use Rattle.heco_fields.specs.Formats.{Format, Value, number, within, versioned, versioned_text, ◌>>=◌ as ◌then◌}
 use Rattle.heco_fields.specs.declared.header.Header.{Header}
-use Rattle.heco_fields.specs.Runs.{along}
+use Rattle.heco_nums.specs.Runs.{along}
 use Rattle.heco_fields.proofs.Laws.{Law, value_law, then_law, same_law}
-use Rattle.heco_fields.specs.Runs.{FitAlong}
+use Rattle.heco_nums.specs.Runs.{FitAlong}
 use Rattle.heco_fields.proofs.FieldLaws.{number_law, IsHeader, versioned_law, wide16, wide32}
 use Rattle.heco_fields.proofs.ManyLaws.{Counted, counted_law}
 use Rattle.heco_circuit.specs.declared.gate.Gate.{Gate}

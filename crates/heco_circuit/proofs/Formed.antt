@@ -1,13 +1,13 @@
 -- The test of a circuit says that it has a spelling.
-use Rattle.std.proofs.Common.{◌≡◌, ℕ, suc, ◌+◌, ◌-◌, ◌^◌, ◌<◌, ◌≤◌, Bool, true, false, ◌&&◌, leb, ltb, eqb, List, [], ◌∷◌, length, refl, ap, ◌∙◌, arith, length-append, cond}
+use Rattle.std.proofs.Common.{◌≡◌, ℕ, ◌+◌, ◌-◌, ◌^◌, ◌<◌, ◌≤◌, Bool, true, false, ◌&&◌, leb, ltb, eqb, List, [], ◌∷◌, length, refl, ap, ◌∙◌, arith, length-append, cond}
 use Rattle.std.specs.Prelude.{IsTrue}
 use Rattle.std.specs.List.{list_all, list_any}
 use Rattle.std.proofs.lemmas.Bool.{leb-true, ltb-true, eq-eqb}
 use Rattle.std.proofs.lemmas.Bool.Decides.{nat_tests}
 use Rattle.heco_nums.specs.Presets.{modulus_of, slots_of}
 use Rattle.heco_nums.specs.declared.shape.Shape.{Shape}
-use Rattle.heco_fields.specs.Runs.{along, all_along, stays}
-use Rattle.heco_fields.specs.Runs.{FitAlong}
+use Rattle.heco_nums.specs.Runs.{all_along, stays}
+use Rattle.heco_nums.specs.Runs.{FitAlong}
 use Rattle.heco_fields.proofs.ManyLaws.{along_passes, both_along, passes_along}
 use Rattle.heco_circuit.specs.declared.gate.Cell.{Cell}
 use Rattle.heco_circuit.specs.declared.gate.Cell.TheVariants.{Number, Slot}
@@ -22,6 +22,7 @@ use Rattle.heco_circuit.proofs.GateLaws.{MayStand, IsNarrow, names_vector, is_of
 use Rattle.heco_circuit.proofs.PortLaws.{IsInput, IsCell, IsOutput}
 use Rattle.heco_circuit.proofs.VectorLaws.{AreVectors, vectors_pass_all, none_there, some_there}
 use Rattle.heco_circuit.proofs.CircuitLaw.{IsPlan, AreInputs, AreGates, AreOutputs}
+use Rattle.heco_circuit.proofs.Lengths.{length-input_parts, length-along}
 
 slots_small : (id : ℕ) → slots_of id ≤ 512
 slots_small id = grind (arith, nat_tests)
@@ -102,14 +103,6 @@ gates_from version t slots vectors ts ss vs parts gs room valid of =
     (λ n parts g room h. (h, narrow t slots vectors parts ts ss vs (omega arith) g h))
     parts gs room valid)
     of
-
-pub length-input_parts : (i : List Shape) → length (input_parts i) ≡ length i
-length-input_parts [] = refl
-length-input_parts (s ∷ i) = ap suc (length-input_parts i)
-
-length-along : (parts : List ℕ) (gs : List Gate) → length (along with_gate parts gs) ≡ length parts + length gs
-length-along parts [] = omega arith
-length-along parts (g ∷ gs) = length-along (with_gate parts g) gs ∙ omega (arith, length-append parts (parts_of parts g ∷ []))
 
 -- ---- outputs
 

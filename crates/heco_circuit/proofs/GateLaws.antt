@@ -13,7 +13,7 @@ use Rattle.heco_circuit.specs.declared.gate.Gate.{Gate}
 use Rattle.heco_circuit.specs.declared.gate.Gate.TheVariants.{Neg, Add, Sub, Mul, Relin, Scale, Shift, Turn, Weigh}
 use Rattle.heco_circuit.specs.Validity.{is_wire, has_parts, is_between, is_gate}
 use Rattle.heco_circuit.specs.Versions.{is_sub, version_of}
-use Rattle.heco_circuit.specs.GateFormat.{is_tag, wire, wire_of, neg, add, sub, mul, relin, scale, shift, turn, weigh, operands, gate, operands_text, tag_of, gate_text}
+use Rattle.heco_circuit.specs.GateFormat.{is_tag, wire, wire_with, neg, add, sub, mul, relin, scale, shift, turn, weigh, operands, gate, operands_text, tag_of, gate_text}
 
 -- the numbers of a gate fit their fields
 abbrev pub IsNarrow : Gate → Type 0
@@ -61,7 +61,7 @@ second g = 0
 wire_law : (parts : List ℕ) → Law (wire parts) (to_be_bytes w32) (λ a. (a < 2 ^ 32) × IsTrue (is_wire parts a))
 wire_law parts = number_law w32 (2 ^ 32) wide32 (is_wire parts)
 
-wire_of_law : (count : ℕ) (parts : List ℕ) → Law (wire_of count parts) (to_be_bytes w32) (λ a. (a < 2 ^ 32) × IsTrue (has_parts count parts a))
+wire_of_law : (count : ℕ) (parts : List ℕ) → Law (wire_with count parts) (to_be_bytes w32) (λ a. (a < 2 ^ 32) × IsTrue (has_parts count parts a))
 wire_of_law count parts = number_law w32 (2 ^ 32) wide32 (has_parts count parts)
 
 constant_law : (low high : ℕ) → Law (within w32 low high) (to_be_bytes w32) (λ c. (c < 2 ^ 32) × IsTrue (is_between low high c))
@@ -91,7 +91,7 @@ relin_law : (t slots vectors : ℕ) (parts : List ℕ) → Law (relin parts) ope
 unfolding relin
 relin_law t slots vectors parts =
     same_law (relin parts) (λ g. to_be_bytes w32 (first g) ++ []) operands_text (λ g. ((first g < 2 ^ 32) × IsTrue (has_parts 3 parts (first g))) × (Relin (first g) ≡ g)) (Stands t slots vectors parts 5)
-    (then_law (wire_of 3 parts) (λ a. Value (Relin a)) (to_be_bytes w32) (λ _. []) (λ a. (a < 2 ^ 32) × IsTrue (has_parts 3 parts a)) (λ a g. Relin a ≡ g) first (wire_of_law 3 parts) (λ a _. value_law (Relin a)) (λ a g e. ap first (sym e)))
+    (then_law (wire_with 3 parts) (λ a. Value (Relin a)) (to_be_bytes w32) (λ _. []) (λ a. (a < 2 ^ 32) × IsTrue (has_parts 3 parts a)) (λ a g. Relin a ≡ g) first (wire_of_law 3 parts) (λ a _. value_law (Relin a)) (λ a g e. ap first (sym e)))
     (λ g h. subst (λ (k : Gate). to_be_bytes w32 (first k) ++ [] ≡ operands_text k) h.1 (append-nil (to_be_bytes w32 (first g))))
     (λ g h. subst (Stands t slots vectors parts 5) h.1 (refl, h.0.1, h.0.0))
     (relin_from t slots vectors parts)
@@ -143,8 +143,8 @@ mul_law : (t slots vectors : ℕ) (parts : List ℕ) → Law (mul parts) operand
 unfolding mul
 mul_law t slots vectors parts =
     same_law (mul parts) (λ g. to_be_bytes w32 (first g) ++ (to_be_bytes w32 (second g) ++ [])) operands_text (mul_fits t slots vectors parts) (Stands t slots vectors parts 4)
-    (then_law (wire_of 2 parts) (λ a. wire_of 2 parts then λ b. Value (Mul a b)) (to_be_bytes w32) (λ g. to_be_bytes w32 (second g) ++ []) (λ a. ((a < 2 ^ 32) × IsTrue (has_parts 2 parts a))) (λ a g. (((second g) < 2 ^ 32) × IsTrue (has_parts 2 parts (second g))) × (Mul a (second g) ≡ g)) first (wire_of_law 2 parts)
-    (λ a _. then_law (wire_of 2 parts) (λ b. Value (Mul a b)) (to_be_bytes w32) (λ _. []) (λ b. ((b < 2 ^ 32) × IsTrue (has_parts 2 parts b))) (λ b g. Mul a b ≡ g) second (wire_of_law 2 parts) (λ b _. value_law (Mul a b)) (λ b g e. ap second (sym e)))
+    (then_law (wire_with 2 parts) (λ a. wire_with 2 parts then λ b. Value (Mul a b)) (to_be_bytes w32) (λ g. to_be_bytes w32 (second g) ++ []) (λ a. ((a < 2 ^ 32) × IsTrue (has_parts 2 parts a))) (λ a g. (((second g) < 2 ^ 32) × IsTrue (has_parts 2 parts (second g))) × (Mul a (second g) ≡ g)) first (wire_of_law 2 parts)
+    (λ a _. then_law (wire_with 2 parts) (λ b. Value (Mul a b)) (to_be_bytes w32) (λ _. []) (λ b. ((b < 2 ^ 32) × IsTrue (has_parts 2 parts b))) (λ b g. Mul a b ≡ g) second (wire_of_law 2 parts) (λ b _. value_law (Mul a b)) (λ b g e. ap second (sym e)))
     (λ a g h. ap first (sym h.1)))
     (λ g h. subst (λ (k : Gate). to_be_bytes w32 (first k) ++ (to_be_bytes w32 (second k) ++ []) ≡ operands_text k) h.1.1 (ap (λ s. to_be_bytes w32 (first g) ++ s) (append-nil (to_be_bytes w32 (second g)))))
     (λ g h. subst (Stands t slots vectors parts 4) h.1.1 (refl, and_true _ _ h.0.1 h.1.0.1, (h.0.0, h.1.0.0)))
@@ -197,8 +197,8 @@ turn_law : (t slots vectors : ℕ) (parts : List ℕ) → Law (turn slots parts)
 unfolding turn
 turn_law t slots vectors parts =
     same_law (turn slots parts) (λ g. to_be_bytes w16 (first g) ++ (to_be_bytes w32 (second g) ++ [])) operands_text (turn_fits t slots vectors parts) (Stands t slots vectors parts 8)
-    (then_law (within w16 1 (slots - 1)) (λ a. wire_of 2 parts then λ b. Value (Turn a b)) (to_be_bytes w16) (λ g. to_be_bytes w32 (second g) ++ []) (λ a. ((a < 2 ^ 16) × IsTrue (is_between 1 (slots - 1) a))) (λ a g. (((second g) < 2 ^ 32) × IsTrue (has_parts 2 parts (second g))) × (Turn a (second g) ≡ g)) first (amount_law 1 (slots - 1))
-    (λ a _. then_law (wire_of 2 parts) (λ b. Value (Turn a b)) (to_be_bytes w32) (λ _. []) (λ b. ((b < 2 ^ 32) × IsTrue (has_parts 2 parts b))) (λ b g. Turn a b ≡ g) second (wire_of_law 2 parts) (λ b _. value_law (Turn a b)) (λ b g e. ap second (sym e)))
+    (then_law (within w16 1 (slots - 1)) (λ a. wire_with 2 parts then λ b. Value (Turn a b)) (to_be_bytes w16) (λ g. to_be_bytes w32 (second g) ++ []) (λ a. ((a < 2 ^ 16) × IsTrue (is_between 1 (slots - 1) a))) (λ a g. (((second g) < 2 ^ 32) × IsTrue (has_parts 2 parts (second g))) × (Turn a (second g) ≡ g)) first (amount_law 1 (slots - 1))
+    (λ a _. then_law (wire_with 2 parts) (λ b. Value (Turn a b)) (to_be_bytes w32) (λ _. []) (λ b. ((b < 2 ^ 32) × IsTrue (has_parts 2 parts b))) (λ b g. Turn a b ≡ g) second (wire_of_law 2 parts) (λ b _. value_law (Turn a b)) (λ b g e. ap second (sym e)))
     (λ a g h. ap first (sym h.1)))
     (λ g h. subst (λ (k : Gate). to_be_bytes w16 (first k) ++ (to_be_bytes w32 (second k) ++ []) ≡ operands_text k) h.1.1 (ap (λ s. to_be_bytes w16 (first g) ++ s) (append-nil (to_be_bytes w32 (second g)))))
     (λ g h. subst (Stands t slots vectors parts 8) h.1.1 (refl, and_true _ _ h.0.1 h.1.0.1, (h.0.0, h.1.0.0)))

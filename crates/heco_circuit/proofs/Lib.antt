@@ -2,6 +2,7 @@ pub mod GateLaws
 pub mod PortLaws
 pub mod VectorLaws
 pub mod CircuitLaw
+pub mod Lengths
 pub mod Formed
 pub mod Sizes
 pub mod FileLaws

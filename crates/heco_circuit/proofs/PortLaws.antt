@@ -8,7 +8,7 @@ use Rattle.std.proofs.lemmas.Bool.{leb-true}
 use Rattle.heco_nums.specs.declared.shape.Shape.{Shape}
 use Rattle.heco_fields.specs.Formats.{Value, Field, within, many, ◌>>=◌ as ◌then◌}
 use Rattle.heco_fields.proofs.Laws.{Law, value_law, then_law, same_law}
-use Rattle.heco_fields.specs.Runs.{FitAlong, stays}
+use Rattle.heco_nums.specs.Runs.{FitAlong, stays}
 use Rattle.heco_fields.proofs.FieldLaws.{bytes_law, number_law, wide8, wide16, wide32}
 use Rattle.heco_fields.proofs.ManyLaws.{many_law}
 use Rattle.heco_circuit.specs.declared.gate.Cell.{Cell}
@@ -16,7 +16,7 @@ use Rattle.heco_circuit.specs.declared.gate.Cell.TheVariants.{Number, Slot}
 use Rattle.heco_circuit.specs.declared.gate.Output.{Output}
 use Rattle.heco_circuit.specs.Validity.{has_parts, is_between}
 use Rattle.heco_circuit.specs.Plans.{is_new, is_cell}
-use Rattle.heco_circuit.specs.GateFormat.{wire_of}
+use Rattle.heco_circuit.specs.GateFormat.{wire_with}
 use Rattle.heco_fields.proofs.Bools.{both_true, and_true}
 use Rattle.heco_circuit.specs.CircuitFormat.{name, input, number_cell, slot_cell, cell, output, name_text, input_text, cell_text, output_text}
 
@@ -111,7 +111,7 @@ slot_cell_law : (t slots : ℕ) (parts : List ℕ) → Law (slot_cell slots part
 unfolding slot_cell
 slot_cell_law t slots parts =
     same_law (slot_cell slots parts) (λ c. to_be_bytes w32 (first c) ++ (to_be_bytes w16 (second c) ++ [])) body (slot_fits slots parts) (Has t slots parts 1)
-    (then_law (wire_of 2 parts) (λ w. within w16 0 (slots - 1) then λ s. Value (Slot w s)) (to_be_bytes w32) (λ c. to_be_bytes w16 (second c) ++ []) (λ w. (w < 2 ^ 32) × IsTrue (has_parts 2 parts w))
+    (then_law (wire_with 2 parts) (λ w. within w16 0 (slots - 1) then λ s. Value (Slot w s)) (to_be_bytes w32) (λ c. to_be_bytes w16 (second c) ++ []) (λ w. (w < 2 ^ 32) × IsTrue (has_parts 2 parts w))
     (λ w c. ((second c < 2 ^ 16) × IsTrue (is_between 0 (slots - 1) (second c))) × (Slot w (second c) ≡ c)) first
     (number_law w32 (2 ^ 32) wide32 (has_parts 2 parts))
     (λ w _. then_law (within w16 0 (slots - 1)) (λ s. Value (Slot w s)) (to_be_bytes w16) (λ _. []) (λ s. (s < 2 ^ 16) × IsTrue (is_between 0 (slots - 1) s)) (λ s c. Slot w s ≡ c) second

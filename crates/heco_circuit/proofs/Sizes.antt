@@ -1,13 +1,12 @@
 -- What bounds and constants are small enough for.
-use Rattle.std.proofs.Common.{◌≡◌, ℕ, ◌≤◌, ◌<◌, ◌-◌, ◌^◌, length, true, ◌&&◌, List, [], ◌∷◌, refl, sym, subst, arith, inl, inr, ltb, leb}
+use Rattle.std.proofs.Common.{◌≡◌, ℕ, ◌≤◌, ◌<◌, ◌-◌, ◌^◌, length, true, ◌&&◌, List, [], ◌∷◌, refl, arith, ltb, leb}
 use Rattle.std.specs.Prelude.{IsTrue}
 use Rattle.std.specs.List.{list_all}
 use Rattle.std.proofs.lemmas.Bool.{leb-true, lt-ltb}
-use Rattle.std.proofs.lemmas.Bool.Decides.{nat_tests}
 use Rattle.heco_nums.specs.Presets.{modulus_of, slots_of}
-use Rattle.heco_nums.proofs.PresetFacts.{one_of_five}
+use Rattle.heco_nums.proofs.PresetCases.{by_preset, modulus_pos}
 use Rattle.heco_noise.specs.Rows.{IsQuiet}
-use Rattle.heco_fields.specs.Runs.{all_along}
+use Rattle.heco_nums.specs.Runs.{all_along}
 use Rattle.heco_fields.proofs.Bools.{both_true, and_true}
 use Rattle.heco_circuit.specs.declared.gate.Gate.{Gate}
 use Rattle.heco_circuit.specs.declared.gate.Gate.TheVariants.{Neg, Add, Sub, Mul, Relin, Scale, Shift, Turn, Weigh}
@@ -16,18 +15,7 @@ use Rattle.heco_circuit.specs.Plans.{Plan, input_parts, is_vector, are_inputs, a
 use Rattle.heco_circuit.specs.Bounds.{fresh_of, is_below}
 
 pub fresh_quiet : (id : ℕ) → 1 ≤ id → id ≤ 5 → IsQuiet (fresh_of id)
-fresh_quiet id low high =
-    let P : ℕ → Type 0 = λ i. IsQuiet (fresh_of i) in
-    elim (one_of_five id low high) [
-      | inl e ↦ subst P (sym e) (omega arith)
-      | inr r ↦ elim r [
-        | inl e ↦ subst P (sym e) (omega arith)
-        | inr r ↦ elim r [
-          | inl e ↦ subst P (sym e) (omega arith)
-          | inr r ↦ elim r [ inl e ↦ subst P (sym e) (omega arith) | inr e ↦ subst P (sym e) (omega arith) ]
-        ]
-      ]
-    ]
+fresh_quiet = by_preset (λ id. IsQuiet (fresh_of id)) (omega arith) (omega arith) (omega arith) (omega arith) (omega arith)
 
 below : (t c : ℕ) → 1 ≤ t → IsTrue (is_between 1 (t - 1) c) → ltb c t ≡ true
 below t c pos h =
@@ -51,9 +39,6 @@ gates_below t slots vectors parts pos [] h = refl
 gates_below t slots vectors parts pos (g ∷ gs) h =
     let u = both_true (is_gate t slots vectors parts g) (all_along (is_gate t slots vectors) with_gate (with_gate parts g) gs) h in
     and_true (is_below t g) (list_all (is_below t) gs) (gate_below t slots vectors parts pos g u.0) (gates_below t slots vectors (with_gate parts g) pos gs u.1)
-
-modulus_pos : (id : ℕ) → 1 ≤ modulus_of id
-modulus_pos id = grind (arith, nat_tests)
 
 -- a formed circuit has constants below t, vectors of N numbers below t, and few gates
 pub record Formed (p : Plan) : Type 0 where

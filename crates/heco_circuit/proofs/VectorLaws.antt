@@ -7,7 +7,7 @@ use Rattle.std.proofs.lemmas.Bool.{eqb-true, eq-eqb, leb-true, le-leb}
 use Rattle.std.proofs.lemmas.List.Elements.{All-nil, All-cons, All-head, All-tail}
 use Rattle.heco_nums.specs.Presets.{modulus_of, slots_of}
 use Rattle.heco_fields.specs.Formats.{Value, within, many}
-use Rattle.heco_fields.specs.Runs.{stays}
+use Rattle.heco_nums.specs.Runs.{stays}
 use Rattle.heco_fields.proofs.Bools.{both_true, and_true}
 use Rattle.heco_fields.proofs.FieldLaws.{number_law, wide32}
 use Rattle.heco_fields.proofs.Laws.{Law, value_law, then_law, same_law}

@@ -1,17 +1,17 @@
 -- The written bound of the noise of each wire, a product and its relinearisation as gates of their own. Each plain vector
 -- counts by its weight.
 use Rattle.std.specs.Prelude.{ℕ, ◌+◌, ◌^◌, ◌<◌, Bool, true, List, [], ◌∷◌, ◌++◌, map, Option, Some, None, slice_index, if◌then◌else◌, nat_lt}
-use Rattle.heco_nums.specs.Presets.{degree_of, slots_of, modulus_of, weight_of, error_of, root_of, inverse_of}
+use Rattle.heco_nums.specs.Presets.{degree_of, slots_of, modulus_of, hamming_weight_of, error_of, root_of, inverse_of}
 use Rattle.heco_noise.specs.Rows.{passes}
 use Rattle.heco_noise.specs.Rows as rows
-use Rattle.heco_fields.specs.Runs.{along}
+use Rattle.heco_nums.specs.Runs.{along}
 use Rattle.heco_slots.specs.Weighing.{vector_weight_by}
 use Rattle.heco_circuit.specs.declared.gate.Gate.{Gate}
 use Rattle.heco_circuit.specs.declared.gate.Gate.TheVariants.{Neg, Add, Sub, Mul, Relin, Scale, Shift, Turn, Weigh}
 
 -- of a fresh encryption under the preset of this number
 abbrev pub fresh_of : ℕ → ℕ
-fresh_of id = rows.fresh (modulus_of id) (weight_of id) (error_of id)
+fresh_of id = rows.fresh (modulus_of id) (hamming_weight_of id) (error_of id)
 
 -- of each input
 abbrev pub fresh_bounds : {A : Type 0} → ℕ → List A → List ℕ
@@ -35,7 +35,7 @@ abbrev pub bound_of : ℕ → List ℕ → List ℕ → Gate → ℕ
 bound_of id weights bounds (Neg a) = slice_index bounds a
 bound_of id weights bounds (Add a b) = rows.added (slice_index bounds a) (slice_index bounds b)
 bound_of id weights bounds (Sub a b) = rows.added (slice_index bounds a) (slice_index bounds b)
-bound_of id weights bounds (Mul a b) = rows.multiplied (degree_of id) (modulus_of id) (weight_of id) (slice_index bounds a) (slice_index bounds b)
+bound_of id weights bounds (Mul a b) = rows.multiplied (degree_of id) (modulus_of id) (hamming_weight_of id) (slice_index bounds a) (slice_index bounds b)
 bound_of id weights bounds (Relin a) = rows.turned (modulus_of id) (degree_of id) (error_of id) (slice_index bounds a)
 bound_of id weights bounds (Scale c a) = rows.scaled_by (modulus_of id) c (slice_index bounds a)
 bound_of id weights bounds (Shift c a) = rows.shifted (modulus_of id) (slice_index bounds a)

@@ -5,7 +5,7 @@ use Rattle.std.specs.Int.{w8, w16, w32, to_be_bytes}
 use Rattle.heco_nums.specs.Presets.{modulus_of, slots_of}
 use Rattle.heco_nums.specs.declared.shape.Shape.{Shape}
 use Rattle.heco_fields.specs.Formats.{Format, Value, Field, number, within, versioned, versioned_text, many, ◌>>=◌}
-use Rattle.heco_fields.specs.Runs.{along, stays}
+use Rattle.heco_nums.specs.Runs.{along, stays}
 use Rattle.heco_fields.specs.declared.header.Header.{Header}
 use Rattle.heco_circuit.specs.declared.gate.Cell.{Cell}
 use Rattle.heco_circuit.specs.declared.gate.Cell.TheVariants.{Number, Slot}
@@ -13,7 +13,7 @@ use Rattle.heco_circuit.specs.declared.gate.Gate.{Gate}
 use Rattle.heco_circuit.specs.declared.gate.Output.{Output}
 use Rattle.heco_circuit.specs.Validity.{is_between, with_gate}
 use Rattle.heco_circuit.specs.Versions.{newest, version_of}
-use Rattle.heco_circuit.specs.GateFormat.{wire_of, gate, gate_text}
+use Rattle.heco_circuit.specs.GateFormat.{wire_with, gate, gate_text}
 use Rattle.heco_circuit.specs.VectorFormat.{vectors, vectors_text}
 use Rattle.heco_circuit.specs.Plans.{Plan, is_new, push, input_parts}
 
@@ -36,7 +36,7 @@ number_cell t = do
 
 unfoldable pub slot_cell : ℕ → List ℕ → Format Cell
 slot_cell slots parts = do
-  wire ← wire_of 2 parts
+  wire ← wire_with 2 parts
   slot ← within w16 0 (slots - 1)
   Value (Slot wire slot)
 

@@ -7,5 +7,5 @@ pub mod VectorFormat
 pub mod CircuitFormat
 pub mod Circuits
 pub mod Needs
-pub mod Noises
 pub mod CircuitFile
+pub mod inside

@@ -5,7 +5,7 @@ use Rattle.std.specs.Str.{bytes_eq}
 use Rattle.heco_nums.specs.Presets.{modulus_of, slots_of}
 use Rattle.heco_nums.specs.Words.{is_word}
 use Rattle.heco_nums.specs.declared.shape.Shape.{Shape}
-use Rattle.heco_fields.specs.Runs.{along, all_along}
+use Rattle.heco_nums.specs.Runs.{along, all_along}
 use Rattle.heco_circuit.specs.declared.gate.Cell.{Cell}
 use Rattle.heco_circuit.specs.declared.gate.Cell.TheVariants.{Number, Slot}
 use Rattle.heco_circuit.specs.declared.gate.Gate.{Gate}

@@ -4,7 +4,7 @@ use Rattle.std.specs.List.{flat_map}
 use Rattle.std.specs.Int.{w32, to_be_bytes}
 use Rattle.heco_nums.specs.Presets.{modulus_of, slots_of}
 use Rattle.heco_fields.specs.Formats.{Format, Value, within, many, ◌>>=◌}
-use Rattle.heco_fields.specs.Runs.{stays}
+use Rattle.heco_nums.specs.Runs.{stays}
 
 abbrev pub entry : ℕ → ℕ → Format ℕ
 entry t s = within w32 0 (t - 1)

@@ -1,4 +1,5 @@
 ghost use Rattle.std.specs.Prelude.{◌≡◌, []};
+ghost use Rattle.heco_nums.specs.PresetRows.{preset_of};
 ghost use Rattle.heco_circuit.specs.Circuits.{IsCircuit};
 
 use crate::gate::{Gate, Output};
@@ -75,8 +76,10 @@ impl Circuit {
     }
 
     /// The parameters that it is for.
+    #[tactic(auto, using(heco_nums::proofs::OnePreset::preset_is))]
     pub fn preset(&self) -> &Preset
         ensures preset { result.now.id ≡ self.now.preset }
+        ensures whole { result.now ≡ preset_of self.now.preset }
         ensures valid { IsCircuit self.now }
     {
         &self.preset

@@ -3,18 +3,18 @@ ghost use Rattle.std.specs.Int.{w16};
 ghost use Rattle.heco_fields.specs.Formats.{number};
 ghost use Rattle.heco_nums.specs.Presets.{modulus_of, slots_of};
 ghost use Rattle.heco_fields.specs.Readings.{Gives, IsAtField, reading};
-ghost use Rattle.heco_fields.specs.Runs.{along};
+ghost use Rattle.heco_nums.specs.Runs.{along};
 ghost use Rattle.heco_circuit.specs.Validity.{with_gate};
-ghost use Rattle.heco_circuit.specs.Plans.{input_parts};
 ghost use Rattle.heco_circuit.specs.CircuitFormat.{inputs, gates, is_output_count, outputs, plan_with, circuit};
 
 use crate::gate::{Gate, Output};
+use crate::parts::input_parts;
 use crate::read_gates::gates_at;
 use crate::read_ports::{inputs_at, outputs_at};
 use crate::read_vectors::vectors_at;
 use crate::version::{NEWEST, version_of};
 use heco_fields::{Fault, broken, u16_within, u32_within, versioned_at};
-use heco_nums::{List, Memory, Preset, Shape};
+use heco_nums::{List, Preset, Shape};
 use std::alloc::Global;
 
 /// What a circuit file says, whatever its noise.
@@ -38,18 +38,6 @@ fn all_inputs_at<'a>(
 {
     let (count, rest) = u16_within(bytes, 0, 256)?;
     inputs_at(alloc, preset.slots as u16, count, rest)
-}
-
-fn input_parts(alloc: Global, inputs: &[Shape]) -> Result<List<u8>, Memory>
-    ensures { IfOk result (λ parts. parts ≡ input_parts inputs.now) }
-{
-    let mut parts = List::new(alloc);
-    let mut rest = inputs;
-    while let [_, after @ ..] = rest {
-        parts.push(2)?;
-        rest = after;
-    }
-    Ok(parts)
 }
 
 #[tactic(auto, using(heco_fields::proofs::Steps::reading_then), unfolding(crate::specs::CircuitFormat::gates))]
@@ -127,7 +115,7 @@ pub fn draft_at(alloc: Global, bytes: &[u8]) -> Result<(Draft, &[u8]), Fault>
     ensures { Gives (λ x. (plan_with x.0.preset.id x.0.inputs x.0.vectors x.0.gates x.0.outputs, x.1.now)) result (reading circuit bytes.now) }
 {
     let (header, rest) = versioned_at(bytes, b"HCIR", NEWEST)?;
-    let preset = preset_of(header.preset);
+    let preset = numbered_preset(header.preset);
     let (inputs, rest) = all_inputs_at(alloc, &preset, rest)?;
     let (vectors, rest) = vectors_at(alloc, header.version, &preset, rest)?;
     let parts = input_parts(alloc, inputs.as_slice())?;
@@ -155,7 +143,7 @@ pub fn draft_at(alloc: Global, bytes: &[u8]) -> Result<(Draft, &[u8]), Fault>
     ))
 }
 
-fn preset_of(id: u8) -> Preset
+fn numbered_preset(id: u8) -> Preset
     requires low { 1 ≤ id }
     requires high { id ≤ 5 }
     ensures { result.id ≡ id }

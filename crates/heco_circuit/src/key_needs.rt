@@ -7,7 +7,8 @@ use crate::gate::Gate;
 use heco_nums::{KeyNeeds, List, Memory};
 use std::alloc::Global;
 
-fn is_relin(gate: &Gate) -> bool
+/// Whether the gate relinearises.
+pub fn is_relin(gate: &Gate) -> bool
     ensures { result ≡ is_relin gate.now }
 {
     match gate {

@@ -6,7 +6,8 @@ use crate::gate::Gate;
 use heco_noise::{added, multiplied, scaled_by, shifted, turned, weighed};
 use heco_nums::Preset;
 
-fn bound_at(bounds: &[u128], wire: u32) -> u128
+/// The bound of a wire, which is 0 behind all wires.
+pub fn bound_at(bounds: &[u128], wire: u32) -> u128
     requires { All IsQuiet bounds.now }
     ensures value { result ≡ slice_index bounds.now wire }
     ensures quiet { IsQuiet result }

@@ -2,7 +2,7 @@ ghost use Rattle.std.specs.Prelude.{◌≡◌, ◌<◌, ◌^◌, All, IsTrue, If
 ghost use Rattle.std.specs.List.{list_all};
 ghost use Rattle.heco_noise.specs.Rows.{IsQuiet};
 ghost use Rattle.heco_circuit.specs.Bounds.{fresh_of, fresh_bounds, weights_of, wire_bounds, is_below, IsLight};
-ghost use Rattle.heco_circuit.specs.Noises.{IsNoise};
+ghost use Rattle.heco_circuit.specs.inside.Noises.{IsNoise};
 ghost use Rattle.heco_circuit.specs.Circuits.{IsCircuit};
 ghost use Rattle.heco_circuit.specs.Plans.{Plan, is_vector};
 
@@ -29,7 +29,8 @@ fn fresh_of(p: &Preset) -> u128
     fresh(p)
 }
 
-fn fresh_bounds(alloc: Global, p: &Preset, inputs: &[Shape]) -> Result<List<u128>, Memory>
+/// The bound of a fresh encryption, for each input.
+pub fn fresh_bounds(alloc: Global, p: &Preset, inputs: &[Shape]) -> Result<List<u128>, Memory>
     ensures value { IfOk result (λ bounds. bounds ≡ fresh_bounds p.now.id inputs.now) }
     ensures quiet { IfOk result (λ bounds. All IsQuiet bounds) }
 {

@@ -1,41 +1,16 @@
-ghost use Rattle.std.specs.Prelude.{◌≡◌, ◌≤◌, max, slice_index, IfOk};
+ghost use Rattle.std.specs.Prelude.{◌≡◌, ◌≤◌, IfOk};
 ghost use Rattle.heco_fields.specs.Formats.{many};
 ghost use Rattle.heco_fields.specs.Readings.{Gives, reading};
-ghost use Rattle.heco_fields.specs.Runs.{along};
-ghost use Rattle.heco_circuit.specs.Validity.{parts_of, with_gate};
+ghost use Rattle.heco_nums.specs.Runs.{along};
+ghost use Rattle.heco_circuit.specs.Validity.{with_gate};
 ghost use Rattle.heco_circuit.specs.GateFormat.{gate};
 
 use crate::gate::Gate;
+use crate::parts::parts_of;
 use crate::read_gate::gate_at;
 use heco_fields::Fault;
 use heco_nums::List;
 use std::alloc::Global;
-
-fn part_count(parts: &[u8], wire: u32) -> u8
-    ensures { result ≡ slice_index parts.now wire }
-{
-    match parts.get(wire as usize) {
-        Some(count) => *count,
-        None => 0,
-    }
-}
-
-/// How many parts a gate gives.
-pub fn parts_of(parts: &[u8], gate: Gate) -> u8
-    ensures { result ≡ parts_of parts.now gate }
-{
-    match gate {
-        Gate::Neg { a }
-        | Gate::Scale { c: _, a }
-        | Gate::Shift { c: _, a }
-        | Gate::Weigh { v: _, a } => part_count(parts, a),
-        Gate::Add { a, b } | Gate::Sub { a, b } => {
-            part_count(parts, a).max(part_count(parts, b))
-        }
-        Gate::Mul { .. } => 3,
-        Gate::Relin { .. } | Gate::Turn { .. } => 2,
-    }
-}
 
 /// So many gates of a file of this version with so many vectors, behind wires of these parts, and the parts of all wires.
 pub fn gates_at<'a>(

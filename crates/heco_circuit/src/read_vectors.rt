@@ -1,7 +1,7 @@
 ghost use Rattle.std.specs.Prelude.{◌≡◌, ◌≤◌, length, IfOk};
 ghost use Rattle.heco_fields.specs.Formats.{many};
 ghost use Rattle.heco_fields.specs.Readings.{Gives, reading};
-ghost use Rattle.heco_fields.specs.Runs.{stays};
+ghost use Rattle.heco_nums.specs.Runs.{stays};
 ghost use Rattle.heco_nums.specs.Presets.{modulus_of, slots_of};
 ghost use Rattle.heco_circuit.specs.VectorFormat.{vector, some_vectors, vectors};
 

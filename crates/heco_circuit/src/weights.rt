@@ -7,7 +7,7 @@ use heco_nums::{List, Memory, Preset};
 use heco_slots::SlotTable;
 use std::alloc::Global;
 
-fn weight_of(table: &SlotTable, vector: &[u32], room: &mut [u32]) -> u64
+fn vector_weight(table: &SlotTable, vector: &[u32], room: &mut [u32]) -> u64
     requires vector { IsTrue (is_vector table.now.preset.t table.now.preset.slots vector.now) }
     requires room { length room.old ≡ table.now.preset.n }
     ensures value { result ≡ vector_weight_of table.now.preset.id vector.now }
@@ -30,13 +30,13 @@ fn each_weight(
     let mut weights = List::new(alloc);
     let mut rest = vectors;
     while let [vector, after @ ..] = rest {
-        weights.push(weight_of(table, vector.as_slice(), room))?;
+        weights.push(vector_weight(table, vector.as_slice(), room))?;
         rest = after;
     }
     Ok(weights)
 }
 
-/// The weight of each vector.
+/// The weight of each plain vector, without a table of powers where there is none.
 pub fn weights_of(alloc: Global, p: &Preset, vectors: &[List<u32>]) -> Result<List<u64>, Memory>
     requires { IsTrue (list_all (is_vector p.now.t p.now.slots) vectors.now) }
     ensures value { IfOk result (λ weights. weights ≡ weights_of p.now.id vectors.now) }

@@ -1,3 +1,4 @@
+use crate::named::{circuit_in, file_in};
 use heco_circuit::{Circuit, read, write};
 use std::alloc::Global;
 use std::test::Fail;
@@ -25,19 +26,12 @@ heavy 48434952030100010000000178000200000001000000020000000300000000000000000000
 
 /// The file of that name.
 pub fn file_of(alloc: Global, name: &str) -> Result<Vec<u8>, Fail> {
-    for line in FILES.lines() {
-        let (first, text) = line.split_once(' ').unwrap_or(("", ""));
-        if first == name {
-            return Ok(hex::decode(alloc, text)?);
-        }
-    }
-    Err("no file".into())
+    file_in(alloc, FILES, name)
 }
 
 /// The circuit of the file of that name.
 pub fn circuit_of(alloc: Global, name: &str) -> Result<Circuit, Fail> {
-    let file = file_of(alloc, name)?;
-    Ok(read(alloc, file.as_slice())?)
+    circuit_in(alloc, FILES, name)
 }
 
 /// What reading a file answers: that it is read, or why it is refused.

@@ -11,5 +11,8 @@ mod listed;
 mod many;
 #[cfg(test)]
 mod meant;
+mod named;
 #[cfg(test)]
 mod told;
+
+pub use named::{circuit_in, file_in, shown, wanted};

@@ -1,6 +1,5 @@
 use crate::files::circuit_of;
-use heco_circuit::Circuit;
-use heco_listing::listing;
+use crate::named::shown;
 use std::alloc::Global;
 use std::test::Fail;
 
@@ -13,26 +12,10 @@ weighs params p8$in x[2]$vector 0 2 3 0 0 0 0 0 0$1 Weigh 0 0 : 4825310$out y[2]
 zero params p8$in x[2]$vector 0 2 3 0 0 0 0 0 0$vector 1 0 0 0 0 0 0 0 0$1 Weigh 1 0 : 0$2 Weigh 0 1 : 0$out y[2] = 1@0 2@1$
 idle params p8$in x[1]$in z[1]$vector 0 0 0 0 0 0 0 0 0$2 Sub 0 1 : 9508$out y[1] = 2@0$";
 
-fn marked(c: u8) -> u8 {
-    if c == b'\n' { b'$' } else { c }
-}
-
-fn listing_of(alloc: Global, c: &Circuit) -> Result<Vec<u8>, Fail> {
-    let mut text = Vec::new(alloc);
-    for byte in listing(alloc, c)?.as_slice() {
-        text.push(marked(*byte))?;
-    }
-    Ok(text)
-}
-
-fn shown(alloc: Global, name: &str) -> Result<Vec<u8>, Fail> {
-    let c = circuit_of(alloc, name)?;
-    listing_of(alloc, &c)
-}
-
 fn holds(alloc: Global, row: &str) -> Result<bool, Fail> {
     let (name, wanted) = row.split_once(' ').ok_or("no file")?;
-    Ok(shown(alloc, name)?.as_slice() == wanted.as_bytes())
+    let c = circuit_of(alloc, name)?;
+    Ok(shown(alloc, &c)?.as_slice() == wanted.as_bytes())
 }
 
 #[test]

@@ -18,13 +18,14 @@ use Rattle.heco_ir.specs.Ranges.{AllFit, gates_of_nodes}
 use Rattle.heco_ir.specs.Terms.{terms_at}
 use Rattle.heco_ir.specs.Unrolled.{AllElementsBelow, operations, root_terms}
 use Rattle.heco_ir.specs.Used.{EachOnce}
-use Rattle.heco_batch.specs.Roots.{homes_from, written_homes, AllHomesFit}
+use Rattle.heco_batch.specs.Roots.{homes_from, written_homes}
+use Rattle.heco_ir.specs.Homes.{AllHomesFit}
 use Rattle.heco_unroll.specs.Unrolling.{element_terms, HaveLengths}
 use Rattle.heco_unroll.proofs.Shapes.{outputs_have_their_lengths}
 use Rattle.heco_place.specs.Fitting.{AreHomes}
 use Rattle.heco_place.specs.NodeHomes.{homes_over}
 use Rattle.heco_good.specs.Good.{modulus, slots, homes_of}
-use Rattle.heco_compile.specs.Vectors.{AreVectors}
+use Rattle.heco_compile.specs.inside.Vectors.{AreVectors}
 use Rattle.heco_compile.proofs.Placeable.{are_homes, length-places}
 use Rattle.heco_compile.proofs.WrittenAgain.{written_again}
 

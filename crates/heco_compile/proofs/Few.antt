@@ -11,7 +11,7 @@ use Rattle.heco_ir.specs.Terms.{terms_at, vector_terms}
 use Rattle.heco_ir.specs.Gates.{Agrees}
 use Rattle.heco_thrift.specs.Thrift.{IsThrifty}
 use Rattle.heco_good.specs.Good.{homes_of}
-use Rattle.heco_compile.specs.Vectors.{AreVectors}
+use Rattle.heco_compile.specs.inside.Vectors.{AreVectors}
 
 pub few_gates : (source : Source) (nodes : List VNode) (roots : List ℕ) (homes : List Home) → (h : AreVectors source nodes roots homes) → (used : List VNode) (used_roots : List ℕ)
     → terms_at used used_roots ≡ terms_at nodes roots → gates_of_nodes used ≤ gates_of_nodes nodes → Agrees (vector_terms used) (terms_at used used_roots)

@@ -1,5 +1,5 @@
 -- How long the file of a circuit is at most.
-use Rattle.std.proofs.Common.{◌≡◌, ◌∙◌, refl, sym, ap, ℕ, ◌+◌, ◌-◌, ◌*◌, ◌^◌, ◌<◌, ◌≤◌, true, ◌&&◌, ◌==◌, nat_le, List, [], ◌∷◌, ◌++◌, map, length, length-append, arith}
+use Rattle.std.proofs.Common.{◌≡◌, ◌∙◌, refl, sym, ap, ℕ, ◌+◌, ◌-◌, ◌*◌, ◌^◌, ◌<◌, ◌≤◌, true, ◌&&◌, ◌==◌, nat_le, List, [], ◌∷◌, map, length, length-append, arith}
 use Rattle.std.specs.Prelude.{codes}
 use Rattle.std.specs.List.{flat_map, list_all, sum_by}
 use Rattle.std.specs.Int.{w16, w32, to_be_bytes}
@@ -10,65 +10,22 @@ use Rattle.std.proofs.lemmas.List.Sums.{sum_by-cons}
 use Rattle.heco_nums.specs.Presets.{modulus_of, slots_of}
 use Rattle.heco_nums.specs.declared.shape.Shape.{Shape}
 use Rattle.heco_fields.specs.Formats.{versioned_text}
-use Rattle.heco_fields.specs.Runs.{all_along}
-use Rattle.heco_circuit.specs.declared.gate.Cell.{Cell}
-use Rattle.heco_circuit.specs.declared.gate.Cell.TheVariants.{Number, Slot}
-use Rattle.heco_circuit.specs.declared.gate.Gate.{Gate}
-use Rattle.heco_circuit.specs.declared.gate.Gate.TheVariants.{Neg, Add, Sub, Mul, Relin, Scale, Shift, Turn, Weigh}
+use Rattle.heco_nums.specs.Runs.{all_along}
 use Rattle.heco_circuit.specs.declared.gate.Output.{Output}
 use Rattle.heco_circuit.specs.GateFormat.{gate_text}
-use Rattle.heco_circuit.specs.CircuitFormat.{header_of, name_text, input_text, cell_text, output_text, inputs_text, gates_text, outputs_text, circuit_text}
+use Rattle.heco_circuit.specs.CircuitFormat.{header_of, input_text, output_text, inputs_text, gates_text, outputs_text, circuit_text}
 use Rattle.heco_circuit.specs.VectorFormat.{vector_text, vectors_text}
 use Rattle.heco_circuit.specs.Validity.{is_between}
 use Rattle.heco_circuit.specs.Circuits.{IsCircuit}
 use Rattle.heco_circuit.specs.Plans.{Plan, shape_of, push, wire_parts, is_name, is_new, is_input, is_cell, is_output, is_vector, are_inputs, are_vectors, are_gates, are_outputs}
+use Rattle.heco_place.proofs.ValidPlan.{input_short, output_short}
+use Rattle.heco_circuit.proofs.Lengths.{gates_short, file_long}
 use Rattle.heco_plainvec.specs.Gathering.{HasRoom}
 use Rattle.heco_compile.proofs.Names.{shape_bytes}
-
-gate_short : (g : Gate) → length (gate_text g) ≤ 9
-gate_short (Neg a) = omega arith
-gate_short (Add a b) = omega arith
-gate_short (Sub a b) = omega arith
-gate_short (Mul a b) = omega arith
-gate_short (Relin a) = omega arith
-gate_short (Scale c a) = omega arith
-gate_short (Shift c a) = omega arith
-gate_short (Turn r a) = omega arith
-gate_short (Weigh v a) = omega arith
-
-gates_short : (gs : List Gate) → length (flat_map gate_text gs) ≤ 9 * length gs
-gates_short [] = omega arith
-gates_short (g ∷ gs) = omega (arith, length-append (gate_text g) (flat_map gate_text gs), gate_short g, gates_short gs)
-
-cell_short : (c : Cell) → length (cell_text c) ≤ 7
-cell_short (Number n) = omega arith
-cell_short (Slot w s) = omega arith
-
-cells_short : (cs : List Cell) → length (flat_map cell_text cs) ≤ 7 * length cs
-cells_short [] = omega arith
-cells_short (c ∷ cs) = omega (arith, length-append (cell_text c) (flat_map cell_text cs), cell_short c, cells_short cs)
-
-length-name_text : (name : List ℕ) → length (name_text name) ≡ 4 + length name
-length-name_text name = length-append (to_be_bytes w32 (length name)) name
-
-input_short : (s : Shape) → length (input_text s) ≡ 6 + length s.name
-input_short s = let two : length (to_be_bytes w16 s.len) ≡ 2 = refl in omega (arith, length-append (name_text s.name) (to_be_bytes w16 s.len), length-name_text s.name, two)
 
 inputs_short : (xs : List Shape) → length (flat_map input_text xs) ≤ 6 * length xs + shape_bytes xs
 inputs_short [] = omega arith
 inputs_short (x ∷ xs) = omega (arith, length-append (input_text x) (flat_map input_text xs), input_short x, inputs_short xs)
-
-output_short : (o : Output) → length (output_text o) ≤ 6 + length o.name + 7 * length o.cells
-output_short o =
-    let two : length (to_be_bytes w16 (length o.cells)) ≡ 2 = refl in
-    omega (
-      arith,
-      length-append (name_text o.name ++ to_be_bytes w16 (length o.cells)) (flat_map cell_text o.cells),
-      length-append (name_text o.name) (to_be_bytes w16 (length o.cells)),
-      length-name_text o.name,
-      two,
-      cells_short o.cells,
-    )
 
 outputs_short : (os : List Output) → length (flat_map output_text os) ≤ 6 * length os + shape_bytes (map shape_of os) + 7 * sum_by (λ s. s.len) (map shape_of os)
 outputs_short [] = omega arith
@@ -112,13 +69,6 @@ vectors_short c valid =
 
 -- ---- the whole file
 
-whole : (c : Plan) → length (circuit_text c) ≡ length (versioned_text (codes "HCIR") (header_of c)) + (length (inputs_text c.inputs) + (length (vectors_text c.vectors) + (length (gates_text c.gates) + length (outputs_text c.outputs))))
-whole c =
-    length-append (versioned_text (codes "HCIR") (header_of c)) (inputs_text c.inputs ++ (vectors_text c.vectors ++ (gates_text c.gates ++ outputs_text c.outputs)))
-    ∙ ap (λ n. length (versioned_text (codes "HCIR") (header_of c)) + n) (length-append (inputs_text c.inputs) (vectors_text c.vectors ++ (gates_text c.gates ++ outputs_text c.outputs))
-    ∙ ap (λ n. length (inputs_text c.inputs) + n) (length-append (vectors_text c.vectors) (gates_text c.gates ++ outputs_text c.outputs)
-    ∙ ap (λ n. length (vectors_text c.vectors) + n) (length-append (gates_text c.gates) (outputs_text c.outputs))))
-
 -- a valid circuit of so many gates and parameters, beside the bytes of its names and its elements
 file_within : (c : Plan) (outputs : List Shape) → IsCircuit c → map shape_of c.outputs ≡ outputs → length c.gates ≤ 20447232 → length c.inputs + length outputs ≤ 256
     → length (circuit_text c) ≤ (2 ^ 28 - 2 ^ 26) + (shape_bytes c.inputs + shape_bytes outputs) + 7 * sum_by (λ s. s.len) outputs
@@ -129,7 +79,7 @@ file_within c outputs valid are gates ports =
     let o : length (outputs_text c.outputs) ≡ 2 + length (flat_map output_text c.outputs) = length-append (to_be_bytes w16 (length c.outputs)) (flat_map output_text c.outputs) in
     let count : length c.outputs ≡ length outputs = sym (length-map c.outputs shape_of) ∙ ap length are in
     let os : length (flat_map output_text c.outputs) ≤ 6 * length outputs + shape_bytes outputs + 7 * sum_by (λ s. s.len) outputs = rw (are, count) at (outputs_short c.outputs) in
-    omega (arith, whole c, head, i, g, o, os, vectors_short c valid, inputs_short c.inputs, gates_short c.gates, gates, ports)
+    omega (arith, file_long c, head, i, g, o, os, vectors_short c valid, inputs_short c.inputs, gates_short c.gates, gates, ports)
 
 -- a valid circuit of so many gates, parameters and elements, whose names have 2^20 bytes together
 pub file_short : (c : Plan) (outputs : List Shape) → IsCircuit c → map shape_of c.outputs ≡ outputs → length c.gates ≤ 20447232 → length c.inputs + length outputs ≤ 256

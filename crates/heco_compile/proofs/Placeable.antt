@@ -9,18 +9,17 @@ use Rattle.heco_nums.specs.declared.shape.Shape.{Shape}
 use Rattle.heco_types.specs.Presets.{id_named}
 use Rattle.heco_types.proofs.PresetWords.{id_named-is}
 use Rattle.heco_written.specs.VectorTerm.{Input}
-use Rattle.heco_written.specs.WrittenForm.{Home as WrittenHome, Known, At as AtPlace, places, vectors_of}
+use Rattle.heco_written.specs.WrittenForm.{WrittenHome, Known, At as AtPlace, places, vectors_of}
 use Rattle.heco_ir.specs.declared.home.Home.{Home}
-use Rattle.heco_ir.specs.declared.home.Home.TheVariants.{Number as NumberHome, At}
 use Rattle.heco_ir.specs.declared.scalar.SNode.{SNode}
 use Rattle.heco_ir.specs.declared.vector.VNode.{VNode}
 use Rattle.heco_ir.specs.declared.vector.VNode.TheVariants.{Input as InputNode, Neg, Add, Mul, Scale, Shift, Turn}
+use Rattle.heco_ir.specs.Homes.{HomeFits, AllHomesFit}
 use Rattle.heco_ir.specs.Ranges as ranges
 use Rattle.heco_ir.specs.Terms.{vector_terms, terms_at}
 use Rattle.heco_ir.specs.Unrolled.{AllElementsBelow}
-use Rattle.heco_batch.specs.Roots as batched
 use Rattle.heco_batch.specs.Roots.{homes_from}
-use Rattle.heco_place.specs.Fitting.{Fits, AllFit, HomeFits, named, AreHomes}
+use Rattle.heco_place.specs.Fitting.{Fits, AllFit, named, AreHomes}
 
 -- the preset of a name has the number that the name has
 pub id_is : (p : Preset) (name : List ℕ) → preset_name p.id ≡ name → p.id ≡ id_named name
@@ -36,17 +35,13 @@ named_from n [] = refl
 named_from n (Known c ∷ hs) = named_from n hs
 named_from n (AtPlace p ∷ hs) = ap (λ rs. n ∷ rs) (named_from (n + 1) hs)
 
-fits_at : (slots modulus : ℕ) (homes : List Home) → batched.AllHomesFit slots modulus homes → (k : ℕ) (h : Home) → slice_get homes k ≡ Some h → HomeFits slots modulus h
+fits_at : (slots modulus : ℕ) (homes : List Home) → AllHomesFit slots modulus homes → (k : ℕ) (h : Home) → slice_get homes k ≡ Some h → HomeFits slots modulus h
 fits_at slots modulus [] f k h e = absurd cc
-fits_at slots modulus (x ∷ hs) f zero h e = let same : x ≡ h = cc in subst (HomeFits slots modulus) same (by x f.0)
-  where
-    by : (x : Home) → batched.HomeFits slots modulus x → HomeFits slots modulus x
-    by (NumberHome c) g = g
-    by (At root slot) g = g
+fits_at slots modulus (x ∷ hs) f zero h e = let same : x ≡ h = cc in subst (HomeFits slots modulus) same f.0
 fits_at slots modulus (x ∷ hs) f (suc k) h e = fits_at slots modulus hs f.1 k h e
 
 pub are_homes : (slots modulus roots : ℕ) (outputs : List Shape) (hs : List WrittenHome) → sum_by (λ (s : Shape). s.len) outputs ≡ length hs → roots ≡ length (places hs)
-    → batched.AllHomesFit slots modulus (homes_from 0 hs) → AreHomes slots modulus roots outputs (homes_from 0 hs)
+    → AllHomesFit slots modulus (homes_from 0 hs) → AreHomes slots modulus roots outputs (homes_from 0 hs)
 are_homes slots modulus roots outputs hs count are fit = record {
   count = count ∙ sym (length-homes_from 0 hs);
   named_are = named_from 0 hs ∙ ap (range_with_len 0) (sym are);

@@ -2,7 +2,7 @@
 use Rattle.std.proofs.Common.{◌≡◌, ◌∙◌, ℕ, ◌+◌, List, [], ◌∷◌, ◌++◌, length, refl, sym, ap, ap₂, append_assoc}
 use Rattle.std.proofs.lemmas.List.{get_or_at, length_push}
 use Rattle.heco_written.specs.VectorTerm.{VectorTerm, Input}
-use Rattle.heco_written.specs.WrittenForm.{Home as WrittenHome, Known, At as AtPlace, vectors_of}
+use Rattle.heco_written.specs.WrittenForm.{WrittenHome, Known, At as AtPlace, vectors_of}
 use Rattle.heco_batch.specs.Roots.{homes_from}
 use Rattle.heco_place.specs.NodeHomes.{homes_over}
 

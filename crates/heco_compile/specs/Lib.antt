@@ -1,3 +1,3 @@
 pub mod Refusals
 pub mod Compiling
-pub mod Vectors
+pub mod inside

@@ -4,7 +4,7 @@ ghost use Rattle.heco_good.specs.Compiled.{IsCircuitOf};
 ghost use Rattle.heco_good.specs.Good.{Good};
 ghost use Rattle.heco_compile.specs.Compiling.{IsRefused};
 ghost use Rattle.heco_compile.specs.Refusals.{of_placing};
-ghost use Rattle.heco_compile.specs.Vectors.{AreVectors};
+ghost use Rattle.heco_compile.specs.inside.Vectors.{AreVectors};
 ghost use Rattle.heco_thrift.specs.Thrift.{weighs};
 
 use bumpalo::Bump;
@@ -33,13 +33,13 @@ fn placed(
     ensures err { IfErr result (λ e. IsRefused t.now (of_placing e)) }
 {
     let used = drop_dead(alloc, vectors, arena)?;
-    let _ = t.source();
-    let _ = used.len();
+    let _valid = t.source();
+    let _valid = used.len();
     let preset = t.preset();
     let inputs = t.inputs().as_slice();
     let outputs = t.outputs().as_slice();
     let circuit = place(alloc, &used, homes, preset, inputs, outputs)?;
-    let _ = circuit.preset();
+    let _valid = circuit.preset();
     nodes_have_the_cost();
     nodes_have_the_gates_of_their_terms();
     Ok(circuit)

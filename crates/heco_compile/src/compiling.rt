@@ -33,8 +33,8 @@ pub fn compile_typed(alloc: Global, t: &Typed) -> Result<Circuit, CompileErr>
     ensures short { (text : List ℕ) → IsSource text t.now → IfOk result (λ c. HasFewBytes c) }
     ensures err { IfErr result (IsRefused t.now) }
 {
-    let _ = t.source();
-    let _ = t.outputs();
+    let _valid = t.source();
+    let _valid = t.outputs();
     let (first, second) = (Bump::new(alloc), Bump::new(alloc));
     let (vectors, homes) = vectors_of(alloc, t, &first, &second)?;
     let first = emptied(alloc, first);

@@ -2,7 +2,7 @@ ghost use Rattle.std.specs.Prelude.{IfOk, IfErr};
 ghost use Rattle.heco_execution.specs.Laws.{source_terms};
 ghost use Rattle.heco_execution.specs.Outcomes.{Refuses};
 ghost use Rattle.heco_good.specs.Good.{modulus};
-ghost use Rattle.heco_compile.specs.Vectors.{AreVectors};
+ghost use Rattle.heco_compile.specs.inside.Vectors.{AreVectors};
 
 use bumpalo::Bump;
 use heco_batch::batch;
@@ -23,7 +23,7 @@ pub fn vectors_of<'b>(
     ensures vectors { IfOk result (λ r. AreVectors t.now r.0.0 r.0.1 r.1) }
     ensures err { IfErr result (λ e. Refuses e (source_terms (modulus t.now) t.now)) }
 {
-    let _ = t.source();
+    let _valid = t.source();
     let preset = t.preset();
     let ir = unroll(alloc, t, first)?;
     let batched = batch(alloc, &ir, preset, second)?;

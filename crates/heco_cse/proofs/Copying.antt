@@ -1,19 +1,17 @@
 -- Copying the nodes that are marked.
-use Rattle.std.proofs.Common.{◌≡◌, ℕ, zero, suc, ◌+◌, ◌<◌, ◌≤◌, List, [], ◌∷◌, ◌++◌, length, map, take, refl, ap, sym, ◌∙◌, arith, Bool, true, get_or, length-append, ◌⊎◌, inl, inr}
-use Rattle.std.specs.Prelude.{Some, slice_get, Contains, ◌↔◌}
+use Rattle.std.proofs.Common.{◌≡◌, ℕ, zero, suc, ◌+◌, ◌<◌, List, [], ◌∷◌, ◌++◌, length, map, take, refl, ap, sym, ◌∙◌, arith, Bool, true, get_or, length-append, inl, inr}
+use Rattle.std.specs.Prelude.{Some, slice_get, Contains}
 use Rattle.std.proofs.lemmas.List.{get_or_append_left, map-append, length-map, take_more}
 use Rattle.std.proofs.lemmas.List.Elements.{Contains-append_cases, Contains-get_or}
 use Rattle.std.proofs.Math.Seq.{get_or-append_seam}
 use native.Mathlib.Decide.{dec_lt}
-use Rattle.heco_nums.specs.Needs.{is_rising}
 use Rattle.heco_ir.specs.declared.dialect.NodeId.{NodeId}
 use Rattle.heco_ir.specs.declared.vector.VNode.{VNode}
 use Rattle.heco_ir.specs.declared.vector.VNode.TheVariants.{Input}
 use Rattle.heco_ir.specs.Values.{all_below, all_earlier, numbers, renamed}
 use Rattle.heco_ir.specs.Vectors.{vector_operands}
-use Rattle.heco_ir.specs.Used.{IsUsed}
 use Rattle.heco_ir.proofs.Built.{slice_get_below}
-use Rattle.heco_ir.specs.Ranges.{AllFit, gates_of_nodes}
+use Rattle.heco_ir.specs.Ranges.{gates_of_nodes}
 use Rattle.heco_ir.proofs.Extended.{gates_of_nodes-append, all_fit-append}
 use Rattle.heco_ir.proofs.Earlier.{earlier_append}
 use Rattle.heco_ir.proofs.Means.{earlier_at, length-numbers, numbers-append}

@@ -1,10 +1,10 @@
 -- What follows where the nodes that roots use are kept.
-use Rattle.std.proofs.Common.{◌≡◌, ℕ, zero, suc, ◌+◌, ◌<◌, ◌≤◌, List, [], ◌∷◌, ◌++◌, length, map, refl, ap, sym, ◌∙◌, arith, true, get_or, nat_lt}
-use Rattle.std.specs.Prelude.{Some, slice_get, Contains, ◌↔◌}
+use Rattle.std.proofs.Common.{◌≡◌, ℕ, zero, suc, ◌+◌, ◌<◌, ◌≤◌, List, [], ◌∷◌, length, map, refl, ap, sym, ◌∙◌, arith, true, get_or, nat_lt}
+use Rattle.std.specs.Prelude.{Some, slice_get, Contains}
 use Rattle.std.proofs.lemmas.List.{length-map}
 use Rattle.std.proofs.lemmas.List.Elements.{Contains-get_or}
 use Rattle.std.proofs.lemmas.Option.{slice_get-get_or}
-use Rattle.heco_written.specs.VectorTerm.{VectorTerm, Input as InputTerm, Negated, Added, Multiplied, Scaled, Shifted, Turned}
+use Rattle.heco_written.specs.VectorTerm.{Input as InputTerm, Negated, Added, Multiplied, Scaled, Shifted, Turned}
 use Rattle.heco_ir.specs.declared.dialect.NodeId.{NodeId}
 use Rattle.heco_ir.specs.declared.vector.VNode.{VNode}
 use Rattle.heco_ir.specs.declared.vector.VNode.TheVariants.{Input, Neg, Add, Mul, Scale, Shift, Turn}

@@ -1,12 +1,8 @@
-use Rattle.std.proofs.Common.{◌≡◌, ℕ, ◌+◌, List, [], ◌∷◌, ◌++◌, refl, arith, length, Bool, true, false, cond, ap, ◌∙◌, sym, ◌⊎◌, inl, inr, ◌<◌, ◌≤◌, ◌^◌, length-append}
+use Rattle.std.proofs.Common.{◌≡◌, ℕ, ◌+◌, List, [], ◌∷◌, ◌++◌, arith, length, Bool, true, false, cond, ◌⊎◌, inl, inr, ◌<◌, ◌≤◌, ◌^◌, length-append}
 use Rattle.std.specs.List.{list_any}
-use Rattle.std.specs.Prelude.{slice_get, Some}
 use Rattle.indexmap.specs.IndexSet.{insert_key}
 use Rattle.heco_ir.specs.Values.{all_below, all_earlier}
-use Rattle.heco_ir.specs.declared.vector.VNode.{VNode}
-use Rattle.heco_ir.specs.Terms.{Extends}
 use Rattle.heco_ir.proofs.Earlier.{earlier_append}
-use Rattle.heco_ir.proofs.Extended.{extends_none, extends_weaken}
 
 pub earlier_insert : {K : Type 0} (eq : K → K → Bool) (ops : K → List ℕ) (ks : List K) (k : K)
     → all_earlier ops 0 ks ≡ true → all_below (length ks) (ops k) ≡ true → all_earlier ops 0 (insert_key eq ks k) ≡ true

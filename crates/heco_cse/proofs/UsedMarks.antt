@@ -1,7 +1,6 @@
 -- Marks that go down the nodes reach what roots use.
-use Rattle.std.proofs.Common.{◌≡◌, ℕ, zero, suc, ◌+◌, ◌<◌, ◌≤◌, List, length, refl, ap, sym, ◌∙◌, arith, Bool, true, false, ◌⊎◌, inl, inr, get_or, replicate}
+use Rattle.std.proofs.Common.{◌≡◌, ℕ, zero, suc, ◌+◌, ◌<◌, List, length, ap, sym, ◌∙◌, arith, Bool, true, false, ◌⊎◌, inl, inr, get_or, replicate}
 use Rattle.std.specs.Prelude.{Some, slice_get, Contains, ◌↔◌}
-use Rattle.std.proofs.lemmas.Option.{slice_get-get_or, get_or_from_slice_get}
 use native.Mathlib.Decide.{dec_lt}
 use Rattle.heco_ir.specs.declared.vector.VNode.{VNode}
 use Rattle.heco_ir.specs.Values.{all_below, all_earlier}

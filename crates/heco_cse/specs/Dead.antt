@@ -1,5 +1,5 @@
 -- Dropping the nodes that no root uses.
-use Rattle.std.specs.Prelude.{◌≡◌, ℕ, ◌+◌, ◌<◌, ◌≤◌, ◌↔◌, Bool, true, List, length, map, Some, slice_get, slice_index_or, Contains, take}
+use Rattle.std.specs.Prelude.{◌≡◌, ℕ, ◌<◌, ◌≤◌, ◌↔◌, Bool, true, List, length, map, Some, slice_get, slice_index_or, Contains, take}
 use Rattle.heco_nums.specs.Needs.{IsRising}
 use Rattle.heco_ir.specs.declared.dialect.NodeId.{NodeId}
 use Rattle.heco_ir.specs.declared.scalar.SNode.{SNode}

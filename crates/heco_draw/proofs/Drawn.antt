@@ -1,28 +1,11 @@
 -- Words drawn one after the other, as a loop draws them.
-use Rattle.std.proofs.Common.{◌≡◌, ℕ, zero, suc, ◌+◌, ◌*◌, ◌%◌, ◌^◌, ◌<◌, ◌≤◌, List, [], ◌∷◌, ◌++◌, length, map, refl, sym, ap, subst, ◌∙◌, arith, add-one}
-use Rattle.std.specs.List.{range_with_len, All}
-use Rattle.std.proofs.lemmas.List.FromFn.{length-map-range_with_len}
+use Rattle.std.proofs.Common.{◌≡◌, ℕ, ◌+◌, ◌*◌, List, [], ◌∷◌, ◌++◌, sym, ap, subst, ◌∙◌, arith}
+use Rattle.std.specs.List.{All}
 use Rattle.std.proofs.lemmas.List.Elements.{All-nil, All-push}
+use Rattle.heco_nums.specs.Listed.{listed}
+use Rattle.heco_nums.proofs.ListedLaws.{listed_none, listed_push}
 use Rattle.rand_chacha.specs.ChaCha.{ChaCha, word_at}
-use Rattle.heco_draw.specs.Words.{ahead, word, listed}
-
-range_next : {A : Type 0} (f : ℕ → A) (a n : ℕ) → map f (range_with_len a (suc n)) ≡ map f (range_with_len a n) ++ f (a + n) ∷ []
-range_next f a zero = let e : a + 0 ≡ a = omega arith in rw e refl
-range_next f a (suc n) =
-    let e : a + suc n ≡ (a + 1) + n = omega arith in
-    rw e (ap (λ t. f a ∷ t) (range_next f (a + 1) n))
-
-pub listed_next : {A : Type 0} (f : ℕ → A) (n : ℕ) → listed (n + 1) f ≡ listed n f ++ f n ∷ []
-unfolding listed
-listed_next f n = let z : 0 + n ≡ n = omega arith in rw add-one (rw z at (range_next f 0 n))
-
-pub listed_none : {A : Type 0} (f : ℕ → A) → listed 0 f ≡ []
-unfolding listed
-listed_none f = refl
-
-pub length-listed : {A : Type 0} (f : ℕ → A) (n : ℕ) → length (listed n f) ≡ n
-unfolding listed
-length-listed f n = length-map-range_with_len f 0 n
+use Rattle.heco_draw.specs.Words.{ahead, word}
 
 -- a word of the generator so many words on
 pub word_ahead : (g : ChaCha) (k i : ℕ) → word (ahead g k) i ≡ word g (k + i)
@@ -51,7 +34,7 @@ pub drawing_goes_on : {A : Type 0} (f : ℕ → A) (P : A → Type 0) (g0 : ChaC
 drawing_goes_on f P g0 step i out g x out2 g2 d is good moved grown =
     let e : step * i + step ≡ step * (i + 1) = omega arith in
     record {
-      so_far = grown ∙ ap (λ t. t ++ x ∷ []) d.so_far ∙ ap (λ y. listed i f ++ y ∷ []) is ∙ sym (listed_next f i);
+      so_far = listed_push f i out out2 x d.so_far is grown;
       place = moved ∙ ap (λ (h : ChaCha). ahead h step) d.place ∙ ahead_twice g0 (step * i) step ∙ ap (ahead g0) e;
       within = subst (All P) (sym grown) (All-push P out x d.within good);
     }

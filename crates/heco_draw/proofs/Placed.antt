@@ -1,7 +1,7 @@
 -- Places chosen one after the other.
-use Rattle.std.proofs.Common.{◌≡◌, ℕ, zero, suc, add-one, ◌+◌, ◌*◌, ◌%◌, ◌^◌, ◌<◌, ◌≤◌, Bool, true, false, cond, not, eqb, ltb, List, [], ◌∷◌, ◌++◌, length, set, get_or, replicate, refl, sym, ap, subst, ◌∙◌, arith}
+use Rattle.std.proofs.Common.{◌≡◌, ℕ, zero, suc, add-one, ◌+◌, ◌%◌, ◌^◌, ◌<◌, ◌≤◌, true, false, cond, ltb, List, length, set, replicate, sym, ap, subst, ◌∙◌, arith}
 use Rattle.std.specs.Prelude.{ℤ, pos, count_by}
-use Rattle.std.specs.List.{All, fold, sum_by}
+use Rattle.std.specs.List.{fold}
 use Rattle.std.specs.Int.RustNames.{unsigned_abs}
 use lib.IntN.{negsuc}
 use Rattle.std.proofs.lemmas.List.Sums.{fold_push, sum_by-set}
@@ -9,9 +9,11 @@ use Rattle.std.proofs.lemmas.List.Elements.{All-replicate, All-set}
 use Rattle.std.proofs.lemmas.List.{length-set, length-replicate}
 use Rattle.std.proofs.lemmas.List.Folds.{sum_by-replicate}
 use Rattle.rand_chacha.specs.ChaCha.{ChaCha}
-use Rattle.heco_scheme.specs.Bounds.{IsSparse, is_used}
-use Rattle.heco_draw.specs.Words.{ahead, word, listed, placed, sparse}
-use Rattle.heco_draw.proofs.Drawn.{listed_next, listed_none, ahead_none, ahead_twice, word_there}
+use Rattle.heco_nums.specs.MaterialBounds.{IsSparse, is_used}
+use Rattle.heco_draw.specs.Words.{ahead, word, placed, sparse}
+use Rattle.heco_nums.specs.Listed.{listed}
+use Rattle.heco_draw.proofs.Drawn.{ahead_none, ahead_twice, word_there}
+use Rattle.heco_nums.proofs.ListedLaws.{listed_next, listed_none}
 
 abbrev sign : ℕ → ℤ
 sign x = cond (ltb x (2 ^ 31)) (pos 1) (negsuc 0)

@@ -1,8 +1,9 @@
 -- What is drawn from a seed. The words are those of ChaCha20 with the seed as its key; how they are used is our own.
-use Rattle.std.specs.Prelude.{ℕ, ◌+◌, ◌-◌, ◌*◌, ◌%◌, ◌^◌, ◌++◌, List, [], ◌∷◌, map, replicate, slice_set, nat_lt, if◌then◌else◌, ℤ, pos}
-use Rattle.std.specs.List.{range_with_len, fold}
+use Rattle.std.specs.Prelude.{ℕ, ◌+◌, ◌-◌, ◌*◌, ◌%◌, ◌^◌, ◌++◌, List, replicate, slice_set, nat_lt, if◌then◌else◌, ℤ, pos}
+use Rattle.std.specs.List.{fold}
 use Rattle.std.specs.Int.{w64, to_be_bytes}
 use lib.IntN.{◌-ℤ◌, negsuc}
+use Rattle.heco_nums.specs.Listed.{listed}
 use Rattle.rand_chacha.specs.ChaCha.{ChaCha, word_at, key_of}
 
 -- 24 zero bytes, and the seed as 8 bytes, the high one first
@@ -20,10 +21,6 @@ ahead g k = record { key = g.key; stream = g.stream; word_pos = g.word_pos + k }
 -- the word so many words on: a block of ChaCha20 has 10 double rounds
 unfoldable pub word : ChaCha → ℕ → ℕ
 word g i = word_at 10 g.key g.stream (g.word_pos + i)
-
--- f 0, f 1, .., n in all
-unfoldable pub listed : {A : Type 0} → ℕ → (ℕ → A) → List A
-listed n f = map f (range_with_len 0 n)
 
 -- a place below n takes -1 where the word has its high bit, and else 1; what stood there is replaced
 abbrev pub placed : ℕ → List ℤ → ℕ → List ℤ

@@ -1,6 +1,6 @@
 ghost use Rattle.std.specs.Prelude.{◌≡◌, ◌+◌, ◌*◌, ◌%◌, ◌^◌, ◌<◌, ◌≤◌, All, IfOk, OnOk, length};
 ghost use Rattle.std.specs.Int.RustNames.{unsigned_abs};
-ghost use Rattle.heco_scheme.specs.Bounds.{AreErrors, AreWords};
+ghost use Rattle.heco_nums.specs.MaterialBounds.{AreErrors, AreWords};
 ghost use Rattle.heco_draw.specs.Words.{start, ahead, word, long_word, long_words, error, errors, values};
 
 use heco_nums::{List, Memory, Preset};

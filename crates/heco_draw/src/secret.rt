@@ -1,7 +1,8 @@
 ghost use Rattle.std.specs.Prelude.{◌≡◌, ◌+◌, ◌≤◌, ◌<◌, ◌^◌, IfOk, OnOk, length};
 ghost use Rattle.std.specs.List.{fold};
-ghost use Rattle.heco_scheme.specs.Bounds.{IsSparse};
-ghost use Rattle.heco_draw.specs.Words.{ahead, sparse, word, placed, listed};
+ghost use Rattle.heco_nums.specs.MaterialBounds.{IsSparse};
+ghost use Rattle.heco_draw.specs.Words.{ahead, sparse, word, placed};
+ghost use Rattle.heco_nums.specs.Listed.{listed};
 
 use crate::draw::next;
 use heco_nums::{List, Memory};

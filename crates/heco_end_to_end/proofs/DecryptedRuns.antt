@@ -26,7 +26,7 @@ use Rattle.heco_scheme.specs.Encryption.{decrypted}
 use Rattle.heco_scheme.specs.Keys.{IsPublicKey}
 use Rattle.heco_slots.specs.Rows.{first_row, row_of}
 use Rattle.heco_texts.specs.Outputs.{output_text}
-use Rattle.heco_run_laws.specs.Carried.{HasShape, AllShaped, IsFreshFor, IsRow, HaveKeys}
+use Rattle.heco_run_laws.specs.Carried.{HasShape, AllShaped, IsFreshFor, IsRowExponent, HaveKeys}
 use Rattle.heco_run_laws.specs.Messages.{input_message}
 use Rattle.heco_run_laws.specs.Results.{is_output_wire, wire_count, result_wires, results_of}
 use Rattle.heco_run_laws.specs.Runs.{Ciphertext, ciphertext_at, run_of}
@@ -119,7 +119,7 @@ module _ (p : Preset) (c : Circuit) (k : KeyLists) (material : List EncRow) (mes
   pub runs_read : AreCiphertexts p.n (length c.inputs) (encrypted_messages p (circuit_key p c k) material messages) × AreCiphertexts p.n (output_wire_count c) (results_of p (keys_of (circuit_key p c k)) c (encrypted_messages p (circuit_key p c k) material messages))
   runs_read = (encrypted, results_are_ciphertexts p c (circuit_key p c k) (encrypted_messages p (circuit_key p c k) material messages) given.valid encrypted)
 
-  module _ (e : ℕ) (row : IsRow p e) (rows : List (List ℕ)) (same : map (row_of p e) messages ≡ map (filled p.slots) rows) where
+  module _ (e : ℕ) (row : IsRowExponent p e) (rows : List (List ℕ)) (same : map (row_of p e) messages ≡ map (filled p.slots) rows) where
     pub prints_its_row : row_text p e c k.s (results_of p (keys_of (circuit_key p c k)) c (encrypted_messages p (circuit_key p c k) material messages)) ≡ output_text (map shape_of c.outputs) (meaning_of c rows)
     unfolding results_of meaning_of
     prints_its_row = printed p e k.s c given.valid (wires_of c rows) (run_of p (keys_of (circuit_key p c k)) c (encrypted_messages p (circuit_key p c k) material messages))

@@ -10,7 +10,7 @@ use Rattle.heco_material.specs.KeyLists.{IsEncRow}
 use Rattle.heco_material.specs.declared.words.EncRow.{EncRow}
 use Rattle.heco_meaning.specs.Meanings.{filled}
 use Rattle.heco_products.specs.Encrypting.{encrypted_message, encrypted_messages}
-use Rattle.heco_scheme.specs.Bounds.{IsSparse}
+use Rattle.heco_nums.specs.MaterialBounds.{IsSparse}
 use Rattle.heco_scheme.specs.Keys.{IsPublicKey}
 use Rattle.heco_slots.specs.Rows.{first_row, row_of}
 use Rattle.heco_slots.proofs.PresetSlots.{decoded_encoded}

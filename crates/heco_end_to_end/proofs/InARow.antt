@@ -1,11 +1,10 @@
 -- What commands that come one after the other read is what those before them gave.
-use Rattle.std.proofs.Common.{◌≡◌, ◌∙◌, ℕ, ◌*◌, ◌<◌, ◌^◌, List, length, map, Ok, Result, refl, sym, ap, subst, arith}
+use Rattle.std.proofs.Common.{◌≡◌, ◌∙◌, ℕ, ◌<◌, ◌^◌, List, length, map, Ok, Result, refl, sym, ap, subst, arith}
 use Rattle.std.specs.Prelude.{codes}
 use Rattle.std.proofs.lemmas.List.Sums.{count_by-le-length}
 use lib.IntN.{ℤ}
 use Rattle.heco_nums.specs.Presets.{slots_of}
 use Rattle.heco_nums.specs.declared.preset.Preset.{Preset}
-use Rattle.heco_nums.proofs.PresetFacts.{facts}
 use Rattle.heco_ciphertext_files.specs.CiphertextFiles.{AreCiphertexts, file_text, magic_of}
 use Rattle.heco_ciphertext_files.specs.declared.kind.FileKind.TheVariants.{Cts, Res}
 use Rattle.heco_ciphertext_files.proofs.Files.{own_file}
@@ -26,7 +25,8 @@ use Rattle.heco_products.specs.Decrypting.{output_wires, output_wire_count, outp
 use Rattle.heco_products.specs.Encrypting.{encrypted_inputs, messages_file}
 use Rattle.heco_products.proofs.CircuitFacts.{few_inputs, few_gates}
 use Rattle.heco_products.proofs.Products.{marked_long}
-use Rattle.heco_scheme.specs.Bounds.{IsSparse}
+use Rattle.heco_nums.specs.MaterialBounds.{IsSparse}
+use Rattle.heco_nums.proofs.PresetFacts.{some_slots}
 use Rattle.heco_texts.specs.Outputs.{output_text}
 use Rattle.heco_run_laws.specs.Messages.{input_message}
 use Rattle.heco_run_laws.specs.Results.{results_of}
@@ -59,14 +59,11 @@ few_results c valid = omega (arith, count_by-le-length (λ b. b) (output_wires c
 
 -- ---- the keys
 
-slots_pos : (n s : ℕ) → 0 < n → n ≡ 2 * s → 0 < s
-slots_pos n s p e = omega arith
-
 pub made_keys_read : MadeKeysAreRead
 made_keys_read p c k id keys = made_evaluation p.n p.h p.b p.slots (needs_relin c) (needed_turns c) k
     (record {
       rising = needed_rising c;
-      amounts = needed_amounts c p.slots (ap slots_of (sym id) ∙ sym p.row.3) (slots_pos p.n p.slots (facts p).n_pos (facts p).slots_half);
+      amounts = needed_amounts c p.slots (ap slots_of (sym id) ∙ sym p.row.3) (some_slots p);
     })
     keys
 

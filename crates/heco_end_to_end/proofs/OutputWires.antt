@@ -8,7 +8,7 @@ use lib.IntN.{ℤ}
 use Rattle.heco_nums.specs.Presets.{modulus_of, slots_of}
 use Rattle.heco_nums.specs.declared.preset.Preset.{Preset}
 use Rattle.heco_nums.specs.declared.shape.Shape.{Shape}
-use Rattle.heco_fields.specs.Runs.{along, all_along}
+use Rattle.heco_nums.specs.Runs.{along, all_along}
 use Rattle.heco_circuit.specs.Circuits.{IsCircuit}
 use Rattle.heco_circuit.specs.Plans.{Plan as Circuit, push, input_parts, is_cell, is_name, is_output, wire_parts, are_inputs, are_vectors, are_gates, are_outputs}
 use Rattle.heco_circuit.specs.Validity.{has_parts, is_between, parts_of, with_gate}

@@ -16,7 +16,7 @@ use Rattle.heco_products.specs.Results.{keys_of}
 use Rattle.heco_slots.specs.Rows.{row_of}
 use Rattle.heco_texts.specs.Answers.{HaveFit}
 use Rattle.heco_texts.specs.Outputs.{output_text}
-use Rattle.heco_run_laws.specs.Carried.{IsRow}
+use Rattle.heco_run_laws.specs.Carried.{IsRowExponent}
 use Rattle.heco_run_laws.specs.Results.{results_of}
 use Rattle.heco_run_laws.specs.Runs.{Ciphertext}
 
@@ -36,7 +36,7 @@ messages_result p c k material messages = results_of p (keys_of (circuit_key p c
 -- where the messages have these values, and then zeros, in either row, what decrypting the result prints of this row is the text of the circuit's meaning
 abbrev pub RowsPrintTheMeaning : Type 0
 RowsPrintTheMeaning =
-    (p : Preset) (e : ℕ) (c : Circuit) (k : KeyLists) (material : List EncRow) (messages rows : List (List ℕ)) → IsRow p e → IsProvided p c k material
+    (p : Preset) (e : ℕ) (c : Circuit) (k : KeyLists) (material : List EncRow) (messages rows : List (List ℕ)) → IsRowExponent p e → IsProvided p c k material
     → length messages ≡ length c.inputs
     → map (row_of p e) messages ≡ map (filled p.slots) rows
     → row_text p e c k.s (messages_result p c k material messages) ≡ output_text (map shape_of c.outputs) (meaning_of c rows)

@@ -11,7 +11,7 @@ use Rattle.heco_material.specs.declared.words.EncRow.{EncRow}
 use Rattle.heco_meaning.specs.Meanings.{meaning_of}
 use Rattle.heco_products.specs.Decrypting.{output_wire_count, outputs_text}
 use Rattle.heco_products.specs.Encrypting.{inputs_file}
-use Rattle.heco_scheme.specs.Bounds.{IsSparse}
+use Rattle.heco_nums.specs.MaterialBounds.{IsSparse}
 use Rattle.heco_texts.specs.Outputs.{output_text}
 use Rattle.heco_run_laws.specs.Runs.{Ciphertext}
 use Rattle.heco_end_to_end.specs.EndToEnd.{IsRunnable}

@@ -13,14 +13,12 @@ use Rattle.heco_nums.specs.declared.preset.Preset.{Preset}
 use Rattle.heco_nums.specs.declared.shape.Shape.{Shape}
 use Rattle.heco_nums.specs.declared.shape.Values.{Values}
 use Rattle.heco_products.proofs.Products.{fit_count}
-use Rattle.heco_products.specs.PresetRows.{preset_of}
+use Rattle.heco_nums.specs.PresetRows.{preset_of}
 use Rattle.heco_sources.specs.Inputs.{IsInput}
 use Rattle.heco_syntax.specs.declared.tree.Source.{Source}
-use Rattle.heco_jobs.specs.Outsides.{Files}
 use Rattle.heco_jobs.specs.Words.{name_of}
 use Rattle.heco_tasks.proofs.MeasureLaws.{encrypted_of_the_chain}
 use Rattle.heco_exec.specs.ExecTask.{source_preset, IsKeyMaterialOf, IsEncryptionMaterialOf}
-use Rattle.heco_exec.specs.Headline.{IsExecuted}
 use Rattle.heco_exec.specs.Laws.{ExecutedFilesAreOfOneChain}
 
 -- whatever good circuit was chosen of what was given can be run

@@ -19,7 +19,7 @@ use Rattle.heco_nums.specs.declared.preset.Preset.{Preset}
 use Rattle.heco_nums.specs.declared.shape.Values.{Values}
 use Rattle.heco_products.specs.Encrypting.{encrypted_inputs, encrypted_messages}
 use Rattle.heco_products.specs.KeyProducts.{circuit_key}
-use Rattle.heco_products.specs.PresetRows.{preset_of}
+use Rattle.heco_nums.specs.PresetRows.{preset_of}
 use Rattle.heco_products.specs.Results.{keys_of}
 use Rattle.heco_run_laws.specs.Messages.{input_message}
 use Rattle.heco_run_laws.specs.Results.{results_of}

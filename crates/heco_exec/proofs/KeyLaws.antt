@@ -18,7 +18,7 @@ use Rattle.heco_nums.specs.declared.shape.Shape.{Shape}
 use Rattle.heco_nums.specs.declared.shape.Values.{Values}
 use Rattle.heco_outside.specs.declared.store.Store as store
 use Rattle.heco_products.specs.KeyProducts.{circuit_key}
-use Rattle.heco_products.specs.PresetRows.{preset_of}
+use Rattle.heco_nums.specs.PresetRows.{preset_of}
 use Rattle.heco_sources.specs.Inputs.{input_shapes, IsInput}
 use Rattle.heco_syntax.specs.declared.tree.Source.{Source}
 use Rattle.heco_texts.specs.Answers.{IsRead}

@@ -11,7 +11,7 @@ use Rattle.heco_material.specs.KeyLists.{KeyLists, lists_of, IsKeyMaterial}
 use Rattle.heco_material.specs.declared.words.EncRow.{EncRow}
 use Rattle.heco_material.specs.declared.words.KeyWords.{KeyWords}
 use Rattle.heco_nums.specs.declared.preset.Preset.{Preset}
-use Rattle.heco_products.specs.PresetRows.{preset_of}
+use Rattle.heco_nums.specs.PresetRows.{preset_of}
 use Rattle.heco_products.specs.Results.{results_file}
 use Rattle.heco_run_laws.specs.Runs.{Ciphertext}
 use Rattle.heco_jobs.specs.Products.{planned}

@@ -10,7 +10,7 @@ use Rattle.heco_material.specs.KeyLists.{KeyLists}
 use Rattle.heco_material.specs.declared.words.EncRow.{EncRow}
 use Rattle.heco_nums.specs.declared.preset.Preset.{Preset}
 use Rattle.heco_nums.specs.declared.shape.Values.{Values}
-use Rattle.heco_products.specs.PresetRows.{preset_of}
+use Rattle.heco_nums.specs.PresetRows.{preset_of}
 use Rattle.heco_sources.specs.Inputs.{input_shapes, IsInput}
 use Rattle.heco_sources.specs.Sources.{IsSource}
 use Rattle.heco_syntax.specs.declared.tree.Source.{Source}

@@ -3,7 +3,7 @@ ghost use Rattle.heco_good.specs.Good.{Good};
 ghost use Rattle.heco_key_files.specs.KeyFiles.{lists_of as eval_lists_of};
 ghost use Rattle.heco_material.specs.KeyLists.{lists_of};
 ghost use Rattle.heco_products.specs.KeyProducts.{circuit_key};
-ghost use Rattle.heco_products.specs.PresetRows.{preset_of};
+ghost use Rattle.heco_nums.specs.PresetRows.{preset_of};
 ghost use Rattle.heco_syntax.specs.declared.tree.Source.{Source};
 ghost use Rattle.heco_jobs.specs.Stages.{IsThingRead, seen};
 ghost use Rattle.heco_jobs.specs.Words.{texts};
@@ -17,7 +17,6 @@ use heco_material::KeyWords;
 use heco_nums::Memory;
 use heco_outside::Store;
 use heco_reads::read_material;
-use heco_tasks::preset_of;
 use std::alloc::Global;
 
 /// The key material for the circuit's needs that this word holds. For a good circuit these are the needs of the source's
@@ -33,7 +32,7 @@ pub fn read_key_words<S: Store>(
     ensures read { (s : Source) → Good s circuit.now → IsThingRead S.Store (texts words.now) which (IsKeyMaterialOf s) (IsNoKeyMaterialIn which s) store.old store.new (seen lists_of result) }
 {
     let needs = needs(alloc, circuit)?;
-    let k = read_material(alloc, preset_of(circuit), &needs, words, which, store)?;
+    let k = read_material(alloc, circuit.preset(), &needs, words, which, store)?;
     Ok(k)
 }
 
@@ -44,7 +43,7 @@ pub fn made_keys(alloc: Global, circuit: &Circuit, k: &KeyWords) -> Result<(Secr
     ensures preset { IfOk result (λ x. x.1.preset ≡ preset_of circuit.now.preset) }
     ensures evaluation { IfOk result (λ x. eval_lists_of x.1 ≡ circuit_key (preset_of circuit.now.preset) circuit.now (lists_of k.now)) }
 {
-    let _ = circuit.preset();
+    let _valid = circuit.preset();
     let keys = make(alloc, k)?;
     Ok(keys)
 }

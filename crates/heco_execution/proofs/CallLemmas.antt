@@ -7,7 +7,7 @@ use Rattle.heco_execution.specs.declared.progress.Progress.{Progress}
 use Rattle.heco_execution.specs.declared.value.Value.{Value}
 use Rattle.heco_execution.specs.declared.value.Value.TheVariants.{Public}
 use Rattle.heco_execution.specs.Definitions.{last_of, last_named}
-use Rattle.heco_execution.specs.Room.{room}
+use Rattle.heco_execution.proofs.Room.{room}
 use Rattle.heco_execution.specs.Secrets.{Stored}
 use Rattle.heco_execution.specs.Evaluation.{Calls, no_calls, meaning, with_definition, definitions_after, calls_of}
 

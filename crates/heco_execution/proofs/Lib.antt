@@ -12,3 +12,4 @@ pub mod TermLaws
 pub mod TurnLemmas
 pub mod Wholes
 pub mod StatementLemmas
+pub mod Room

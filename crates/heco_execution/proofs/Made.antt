@@ -1,9 +1,8 @@
 -- What an execution on terms gives is made by the three operations.
-use Rattle.std.proofs.Common.{◌≡◌, refl, ℕ, zero, suc, ◌+◌, ◌-◌, ◌%◌, ◌<◌, ◌≤◌, ℤ, pos, negsuc, List, [], ◌∷◌, Ok, Err, arith, slice_index_or, length}
+use Rattle.std.proofs.Common.{refl, ℕ, zero, suc, ◌+◌, ◌-◌, ◌%◌, ◌<◌, ◌≤◌, ℤ, pos, negsuc, List, [], ◌∷◌, Ok, Err, arith}
 use Rattle.std.proofs.Math.Nat.{mod-lt}
 use Rattle.std.proofs.lemmas.List.Elements.{All-cons, All-nil}
 use Rattle.std.specs.List.{All}
-use Rattle.heco_syntax.specs.declared.tree.Source.{Source}
 use Rattle.heco_written.specs.ScalarTerm.{ScalarTerm, IsMade, number, element, sum, product, negation}
 use Rattle.heco_execution.specs.declared.progress.Progress.{Progress}
 use Rattle.heco_execution.specs.Laws.{input_lengths, elements_from, elements, AreMade, TermsAreMade}

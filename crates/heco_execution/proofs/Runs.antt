@@ -1,5 +1,5 @@
 -- Runs of statements follow one another where the secrets' operations do.
-use Rattle.std.proofs.Common.{◌≡◌, ◌∙◌, refl, Bool, true, false, ap, subst, ℕ, zero, suc, ◌+◌, ℤ, ◌+ℤ◌, ◌-ℤ◌, pos, List, [], ◌∷◌, ◌++◌, map, take, length, replicate, Some, None, slice_set, slice_index_or}
+use Rattle.std.proofs.Common.{◌≡◌, ◌∙◌, refl, Bool, true, false, ap, subst, ℕ, zero, suc, ◌+◌, ℤ, ◌+ℤ◌, ◌-ℤ◌, pos, List, [], ◌∷◌, map, take, length, replicate, Some, None, slice_index_or}
 use Rattle.std.specs.declared.option.Option.{Option}
 use Rattle.heco_lex.specs.declared.place.Place.{Place}
 use Rattle.heco_syntax.specs.declared.tree.Ident.{Ident}
@@ -14,7 +14,7 @@ use Rattle.heco_execution.specs.declared.value.Value.TheVariants.{Public, Secret
 use Rattle.heco_execution.specs.declared.value.Element.{Element}
 use Rattle.heco_execution.specs.declared.value.Operator.TheVariants.{Plus, Minus, Times}
 use Rattle.heco_execution.specs.Secrets.{Secrets, Stored, storeless}
-use Rattle.heco_execution.specs.States.{State, place_of, element, with_list, declared, first_names, replaced}
+use Rattle.heco_execution.specs.States.{State, element, declared, first_names, replaced}
 use Rattle.heco_execution.specs.Steps.{Step, give, then, make}
 use Rattle.heco_execution.specs.Evaluation.{Calls, as_secret, evaluate}
 use Rattle.heco_execution.specs.Execution.{Run, at_least_zero, bound, holds, within, chosen, in_order, turn, turns, zeros, kept, combined, target_index, initial, assigned, statement, run, run_all}

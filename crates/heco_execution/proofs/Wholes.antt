@@ -17,7 +17,7 @@ use Rattle.heco_execution.specs.Evaluation.{no_calls}
 use Rattle.heco_execution.specs.Execution.{zeros}
 use Rattle.heco_syntax.specs.Ports.{length_of}
 use Rattle.heco_execution.specs.Whole.{first_row, other_rows, opened, as_secrets, with_output, outputs, execute}
-use Rattle.heco_execution.specs.Laws.{input_lengths, elements_from, elements, IsRow, AreRows, mapped, values_of, NumbersAreTheTermsValues}
+use Rattle.heco_execution.specs.Laws.{input_lengths, elements_from, elements, IsInputRow, AreInputRows, mapped, values_of, NumbersAreTheTermsValues}
 use Rattle.heco_execution.proofs.Following.{AllLike, Comes, Follows, then_follows, give_follows}
 use Rattle.heco_execution.proofs.Evaluations.{AreFollowed, Values, Lists, States, values_last, lists_last, states_last, as_secret_follows, calls_follow}
 use Rattle.heco_execution.proofs.Likenesses.{ValueLike, StateLike, held_like, append_like, declared_like}
@@ -146,7 +146,7 @@ module _ (w : World) where
   read (Err e) (Ok y) c = absurd c
 
   -- the elements of an input have the values of its row
-  elements_have : (a i n : ℕ) (row : List ℕ) → ((k : ℕ) → slice_index (slice_index_or w.inputs a []) (i + k) ≡ slice_index row k) → IsRow w.modulus n row
+  elements_have : (a i n : ℕ) (row : List ℕ) → ((k : ℕ) → slice_index (slice_index_or w.inputs a []) (i + k) ≡ slice_index row k) → IsInputRow w.modulus n row
       → AllLike (HasValue w tt) (elements_from a i n) row
   elements_have a i zero [] at h = tt
   elements_have a i (suc n) (x ∷ row) at h = (
@@ -159,7 +159,7 @@ module _ (w : World) where
   elements_have a i zero (x ∷ row) at h = absurd h
   elements_have a i (suc n) [] at h = absurd h
 
-  inputs_have : (a : ℕ) (ns : List ℕ) (rows : List (List ℕ)) → ((k : ℕ) → slice_index_or w.inputs (a + k) [] ≡ slice_index_or rows k []) → AreRows w.modulus ns rows
+  inputs_have : (a : ℕ) (ns : List ℕ) (rows : List (List ℕ)) → ((k : ℕ) → slice_index_or w.inputs (a + k) [] ≡ slice_index_or rows k []) → AreInputRows w.modulus ns rows
       → HaveValues (elements a ns) rows
   inputs_have a [] [] at h = tt
   inputs_have a (n ∷ ns) (row ∷ rows) at h = (

@@ -1,5 +1,5 @@
 -- What statements do, whatever the secrets are.
-use Rattle.std.specs.Prelude.{Bool, true, false, ℕ, zero, suc, ◌+◌, ℤ, pos, negsuc, ◌+ℤ◌, ◌-ℤ◌, List, [], ◌∷◌, ◌++◌, map, length, replicate, Some, None}
+use Rattle.std.specs.Prelude.{Bool, true, false, ℕ, zero, suc, ◌+◌, ℤ, pos, negsuc, ◌+ℤ◌, ◌-ℤ◌, List, [], ◌∷◌, map, length, replicate, Some, None}
 use Rattle.std.specs.declared.option.Option.{Option}
 use Rattle.heco_lex.specs.declared.place.Place.{Place}
 use Rattle.heco_syntax.specs.declared.tree.Ident.{Ident}

@@ -37,18 +37,18 @@ elements a [] = []
 elements a (n ∷ ns) = elements_from a 0 n ∷ elements (suc a) ns
 
 -- so many numbers, all below t
-abbrev pub IsRow : ℕ → ℕ → List ℕ → Type 0
-IsRow t zero [] = Unit {0}
-IsRow t (suc n) (x ∷ xs) = (x < t) × IsRow t n xs
-IsRow t zero (x ∷ xs) = ⊥
-IsRow t (suc n) [] = ⊥
+abbrev pub IsInputRow : ℕ → ℕ → List ℕ → Type 0
+IsInputRow t zero [] = Unit {0}
+IsInputRow t (suc n) (x ∷ xs) = (x < t) × IsInputRow t n xs
+IsInputRow t zero (x ∷ xs) = ⊥
+IsInputRow t (suc n) [] = ⊥
 
 -- rows of these lengths, of numbers below t
-abbrev pub AreRows : ℕ → List ℕ → List (List ℕ) → Type 0
-AreRows t [] [] = Unit {0}
-AreRows t (n ∷ ns) (x ∷ xs) = IsRow t n x × AreRows t ns xs
-AreRows t [] (x ∷ xs) = ⊥
-AreRows t (n ∷ ns) [] = ⊥
+abbrev pub AreInputRows : ℕ → List ℕ → List (List ℕ) → Type 0
+AreInputRows t [] [] = Unit {0}
+AreInputRows t (n ∷ ns) (x ∷ xs) = IsInputRow t n x × AreInputRows t ns xs
+AreInputRows t [] (x ∷ xs) = ⊥
+AreInputRows t (n ∷ ns) [] = ⊥
 
 -- the terms of a source's output elements: they and the refusals depend on the source and the modulus alone
 abbrev pub source_terms : ℕ → Source → Outcome (List (List ScalarTerm))
@@ -67,7 +67,7 @@ values_of w rows = map (λ row. map (λ x. scalar_value w x) row) rows
 -- broken at the same place
 abbrev pub NumbersAreTheTermsValues : Type 0
 NumbersAreTheTermsValues =
-    (w : World) (source : Source) → AreRows w.modulus (input_lengths source.ports) w.inputs
+    (w : World) (source : Source) → AreInputRows w.modulus (input_lengths source.ports) w.inputs
     → plain_outputs w.modulus source w.inputs ≡ mapped (values_of w) (source_terms w.modulus source)
 
 -- where no rule is broken, each term is made by sums, products and negations from numbers below t and elements of inputs below the slots

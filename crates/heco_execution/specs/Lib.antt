@@ -4,7 +4,6 @@ pub mod Execution
 pub mod Laws
 pub mod Outcomes
 pub mod Plain
-pub mod Room
 pub mod Secrets
 pub mod States
 pub mod Steps

@@ -1,5 +1,5 @@
 -- The execution of a whole source, whatever the secrets are.
-use Rattle.std.specs.Prelude.{ℕ, cond, List, [], ◌∷◌, ◌++◌, map, Some, None}
+use Rattle.std.specs.Prelude.{cond, List, [], ◌∷◌, ◌++◌, map}
 use Rattle.heco_syntax.specs.Ports.{length_of}
 use Rattle.heco_syntax.specs.declared.tree.Param.{Param}
 use Rattle.heco_syntax.specs.declared.tree.Source.{Source}

@@ -1,6 +1,7 @@
 //! The execution of a source, whatever its secrets are: the definition, and one interpreter over a trait.
 #![tactic(auto)]
 
+mod assignment;
 mod calls;
 mod definitions;
 mod error;

@@ -4,10 +4,11 @@ ghost use Rattle.heco_execution.specs.States.{nothing};
 ghost use Rattle.heco_execution.specs.Whole.{opened, as_secrets, with_output, outputs, execute};
 ghost use Rattle.heco_execution.specs.declared.value.Value.TheVariants.{Secret};
 
+use crate::assignment::zeros;
 use crate::definitions::{Definitions, Index};
 use crate::names::Names;
 use crate::operators::as_secret;
-use crate::statement::{run_all, zeros};
+use crate::statement::run_all;
 use crate::{EvalErr, Progress, Secrets, Value};
 use heco_nums::{List, Memory};
 use heco_syntax::{Param, Source};

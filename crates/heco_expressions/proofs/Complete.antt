@@ -10,7 +10,7 @@ use Rattle.heco_syntax.specs.declared.tree.Expr.TheVariants as e
 use Rattle.heco_syntax.specs.declared.tree.SumPart.{SumPart}
 use Rattle.heco_syntax.specs.declared.tree.ProdPart.{ProdPart}
 use Rattle.heco_syntax.specs.Parts.{place_of, ident_of, num_of, comma, comma_by, sum_of, product_of, sum_sign, sum_sign_of, with_place, product_sign, product_sign_by, sum_part, product_part}
-use Rattle.heco_expressions.specs.Reading.{Outcome, Parser, found, syntax, nested, and_then, gives, take_one, start, start_of, is_at, same_kind, expect, word, number, closed, index_of, call_of, indexed_deep, called_deep, group_of, negative_of, named_flat, named_deep, named_by, factor_by, signed, behind, parts_from, parts_by, factors_after, products_after}
+use Rattle.heco_expressions.specs.Reading.{Outcome, Parser, found, syntax, nested, and_then, gives, take_one, start_of, is_at, same_kind, closed, index_of, call_of, indexed_deep, called_deep, group_of, negative_of, named_by, factor_by, signed, behind, parts_from, parts_by, factors_after, products_after}
 use Rattle.heco_expressions.specs.Reading as read
 use Rattle.heco_syntax.specs.Grammar.{IsFactor, AreArguments, AreFurther, IsProduct, AreFactors, IsSum, AreProducts, literal, name, item, negative, group, call, no_argument, arguments, no_further, further, product, no_factor, factors, sum, no_product, products}
 use Rattle.heco_expressions.proofs.Verdicts.{same_self}

@@ -10,7 +10,7 @@ use Rattle.heco_syntax.specs.declared.tree.Expr.{Expr}
 use Rattle.heco_syntax.specs.declared.tree.Ident.{Ident}
 use Rattle.heco_syntax.specs.declared.tree.Expr.TheVariants as e
 use Rattle.heco_syntax.specs.Parts.{place_of, ident_of, num_of, comma, sum_of, product_of, sum_sign, product_sign, sum_part, product_part}
-use Rattle.heco_expressions.specs.Reading.{Outcome, Parser, found, syntax, nested, and_then, gives, take_one, start, is_at, same_kind, expect, word, number, closed, index_of, call_of, indexed_deep, called_deep, group_of, negative_of, named_flat, named_deep, factor_flat, factor_deep, signed, behind, parts_from, parts_by, factors_after, products_after}
+use Rattle.heco_expressions.specs.Reading.{Outcome, Parser, found, syntax, nested, and_then, gives, take_one, start, is_at, same_kind, expect, word, number, closed, index_of, call_of, indexed_deep, called_deep, group_of, negative_of, named_flat, named_deep, factor_flat, factor_deep, behind, parts_from, parts_by, factors_after, products_after}
 use Rattle.heco_expressions.specs.Reading as read
 
 abbrev pub left : {A : Type 0} → Outcome A → List Lexeme

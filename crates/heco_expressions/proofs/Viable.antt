@@ -11,13 +11,13 @@ use Rattle.heco_syntax.specs.declared.tree.Expr.{Expr}
 use Rattle.heco_syntax.specs.declared.tree.Expr.TheVariants as e
 use Rattle.heco_syntax.specs.declared.tree.Ident.{Ident}
 use Rattle.heco_syntax.specs.Parts.{place_of, ident_of, num_of, comma, sum_of, product_of, sum_sign, product_sign, sum_part, product_part}
-use Rattle.heco_expressions.specs.Reading.{Outcome, Parser, found, syntax, nested, and_then, gives, take_one, start, is_at, same_kind, expect, word, number, closed, index_of, group_of, negative_of, named_flat, named_deep, indexed_deep, called_deep, call_of, parts_from, factors_after, products_after}
+use Rattle.heco_expressions.specs.Reading.{Parser, found, nested, and_then, gives, start, is_at, same_kind, expect, word, number, closed, index_of, group_of, negative_of, named_flat, named_deep, indexed_deep, called_deep, call_of, parts_from, factors_after, products_after}
 use Rattle.heco_expressions.specs.Reading as read
-use Rattle.heco_expressions.specs.Reading.{factor_by, named_by, start_of}
+use Rattle.heco_expressions.specs.Reading.{factor_by, start_of}
 use Rattle.heco_syntax.specs.Grammar.{IsFactor, AreArguments, AreFurther, IsProduct, AreFactors, IsSum, AreProducts, literal, name, item, negative, group, call, no_argument, arguments, no_further, further, product, no_factor, factors, sum, no_product, products}
 use Rattle.heco_expressions.proofs.Verdicts.{Verdict, was_found, was_syntax, was_nested, then_verdict, deeper_verdict, plain, kinds_same, IsOne, one_verdict, weak_one, IsEnd, end_verdict, Behind, parts_verdict, Filled}
 use Rattle.heco_expressions.proofs.Levels.{factor_starts}
-use Rattle.heco_expressions.proofs.Weaken.{weaken_factor, weaken_arguments, weaken_further, weaken_factors, weaken_product, weaken_products, weaken_sum}
+use Rattle.heco_expressions.proofs.Weaken.{weaken_factor, weaken_arguments, weaken_factors, weaken_product, weaken_products, weaken_sum}
 
 some_literal : (n : ℕ) → IsFactor n (plain k.Number ∷ []) (e.Lit (num_of (plain k.Number)))
 some_literal n = literal refl refl

@@ -5,7 +5,7 @@ use Rattle.heco_fields.specs.declared.fault.Fault.{Fault}
 use Rattle.heco_fields.specs.declared.fault.Fault.TheVariants.{Broken, Memory}
 use Rattle.heco_fields.specs.Formats.{Format, Value, many, ◌>>=◌ as ◌then◌}
 use Rattle.heco_fields.specs.Readings.{Reading, reading, ◌>>=◌, Fails, with_front}
-use Rattle.heco_fields.specs.Runs.{along}
+use Rattle.heco_nums.specs.Runs.{along}
 use Rattle.heco_fields.proofs.Steps.{reading_then}
 
 pub along_push : {S A : Type 0} (next : S → A → S) (s : S) (xs : List A) (x : A) → along next s (xs ++ x ∷ []) ≡ next (along next s xs) x

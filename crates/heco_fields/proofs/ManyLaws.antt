@@ -7,7 +7,7 @@ use Rattle.heco_fields.specs.Formats.{Format, Value, many, ◌>>=◌ as ◌then�
 use Rattle.heco_fields.specs.Readings.{reading, ◌>>=◌}
 use Rattle.std.specs.List.{All}
 use Rattle.std.proofs.lemmas.List.Elements.{All-nil, All-cons, All-head, All-tail}
-use Rattle.heco_fields.specs.Runs.{stays, FitAlong, all_along}
+use Rattle.heco_nums.specs.Runs.{stays, FitAlong, all_along}
 use Rattle.heco_fields.proofs.Bools.{both_true}
 use Rattle.heco_fields.proofs.Steps.{reading_then}
 use Rattle.heco_fields.proofs.Laws.{IsBytes, Takes, Takes-then, Law, ok_is, bind_ok, then_law, same_law}

@@ -1,13 +1,13 @@
 -- What the first bytes of a file name, the whole file names.
-use Rattle.std.proofs.Common.{◌≡◌, ◌≤◌, ◌<◌, ◌+◌, ◌-◌, ◌∙◌, ℕ, List, ◌++◌, length, take, drop, refl, sym, ap, subst, arith, append_assoc}
+use Rattle.std.proofs.Common.{◌≡◌, ◌≤◌, ◌<◌, ◌+◌, ◌-◌, ◌∙◌, ℕ, List, ◌++◌, length, take, drop, sym, ap, subst, arith, append_assoc}
 use Rattle.std.specs.Int.{w8, w32, to_be_bytes}
 use Rattle.std.proofs.lemmas.List.{length-append, take-append-drop}
 use Rattle.std.proofs.Math.Seq.{take-append-add}
 use Rattle.heco_fields.specs.Formats.{Format, header_text}
 use Rattle.heco_fields.proofs.FieldLaws.{wide8, wide32}
 use Rattle.heco_key_files.specs.Judging.{HasCause, NamesPreset, NamesNoOther, whole}
-use Rattle.heco_key_files.specs.declared.error.FileErr.{FileErr}
-use Rattle.heco_key_files.specs.declared.error.FileErr.TheVariants.{Malformed, WrongPreset, Count, Memory}
+use Rattle.heco_lists.specs.declared.error.FileErr.{FileErr}
+use Rattle.heco_lists.specs.declared.error.FileErr.TheVariants.{Malformed, WrongPreset, Count, Memory}
 use Rattle.heco_ciphertext_files.specs.Counted.{HasCountedCause, NamesCount, CountsNoOther, whole_counted}
 use Rattle.heco_files.proofs.Spans.{Spans, breaks_whole}
 

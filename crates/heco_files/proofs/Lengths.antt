@@ -1,13 +1,13 @@
 -- How long each file may be.
-use Rattle.std.proofs.Common.{◌≡◌, ◌≤◌, ◌<◌, ◌+◌, ◌-◌, ◌*◌, ◌∙◌, ℕ, zero, suc, List, [], ◌∷◌, length, refl, sym, ap, subst, arith}
+use Rattle.std.proofs.Common.{◌≡◌, ◌≤◌, ◌<◌, ◌+◌, ◌-◌, ◌*◌, ℕ, List, length, refl, subst, arith}
 use Rattle.std.proofs.Math.Nat.{mul-le-mul_right}
 use Rattle.std.specs.Prelude.{codes}
 use Rattle.std.specs.Int.{w8, w16, w32, w64}
-use Rattle.heco_fields.specs.Formats.{Format, Value, ◌>>=◌ as ◌then◌, many, within, any, fixed, versioned, header}
-use Rattle.heco_fields.specs.Runs.{stays}
-use Rattle.heco_lists.specs.ListFormat.{sparse, place, counted, words, word}
+use Rattle.heco_fields.specs.Formats.{Format, many, within, any, fixed, versioned, header}
+use Rattle.heco_nums.specs.Runs.{stays}
+use Rattle.heco_lists.specs.ListFormat.{sparse, secret_place, counted, words, word}
 use Rattle.heco_key_files.specs.Judging.{whole}
-use Rattle.heco_key_files.specs.KeyFiles.{eval_lists, turn, latest, turns, pair, switch_key, evaluation}
+use Rattle.heco_key_files.specs.KeyFiles.{turn, latest, turns, pair, switch_key, evaluation}
 use Rattle.heco_ciphertext_files.specs.CiphertextFiles.{ciphertext, ciphertexts}
 use Rattle.heco_ciphertext_files.specs.Counted.{whole_counted}
 use Rattle.heco_files.specs.Lengths.{secret_length, longest_evaluation, ciphertexts_length}
@@ -43,7 +43,7 @@ spans_words n = spans_at (n * 8) (8 * n) _ (omega arith) (drop_has (n * 8) _ _ (
 
 pub spans_sparse : (n h : ℕ) → Spans n Any (sparse n h)
 unfolding sparse
-spans_sparse n h = spans_at (n * 1) n _ (omega arith) (drop_has (n * 1) _ _ (spans_many (place h) counted 1 (λ s. spans_field 1 _ _ Any (λ b ok. tt)) n 0))
+spans_sparse n h = spans_at (n * 1) n _ (omega arith) (drop_has (n * 1) _ _ (spans_many (secret_place h) counted 1 (λ s. spans_field 1 _ _ Any (λ b ok. tt)) n 0))
 
 pub secret_spans : (n h : ℕ) → Spans (secret_length n) Any (whole (codes "HSEC") (sparse n h))
 unfolding whole

@@ -2,4 +2,3 @@ pub mod Spans
 pub mod Lengths
 pub mod Cuts
 pub mod Once
-pub mod RowBounds

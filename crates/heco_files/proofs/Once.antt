@@ -1,14 +1,14 @@
 -- Each file is read as one thing alone, and no file that is read is longer than stated.
-use Rattle.std.proofs.Common.{◌≡◌, ◌≤◌, ◌<◌, ◌+◌, ◌∙◌, ℕ, List, [], ◌++◌, ◌*◌, length, append_assoc, refl, sym, ap, subst, arith}
+use Rattle.std.proofs.Common.{◌≡◌, ◌≤◌, ◌<◌, ◌+◌, ◌∙◌, ℕ, List, [], ◌++◌, ◌*◌, length, append_assoc, refl, sym, ap, arith}
 use Rattle.std.specs.Prelude.{codes, ℤ}
-use Rattle.std.specs.Int.{w8, w32, to_be_bytes}
+use Rattle.std.specs.Int.{w32, to_be_bytes}
 use Rattle.std.proofs.lemmas.List.{append_cancel_left, length-append}
 use Rattle.heco_fields.specs.Formats.{Format, header_text}
 use Rattle.heco_fields.specs.Readings.{reading, judged}
 use Rattle.heco_fields.proofs.FieldLaws.{wide32}
 use Rattle.heco_fields.proofs.FileLaws.{text_judged}
 use Rattle.heco_fields.proofs.Laws.{Law, ok_is}
-use Rattle.heco_scheme.specs.Bounds.{IsSparse}
+use Rattle.heco_nums.specs.MaterialBounds.{IsSparse}
 use Rattle.heco_lists.specs.ListFormat.{sparse, bytes_text}
 use Rattle.heco_lists.proofs.ListLaws.{sparse_law}
 use Rattle.heco_key_files.specs.KeyFiles.{EvalLists, AreEvalLists, evaluation, eval_text, lists_text, secret_text}

@@ -1,11 +1,11 @@
 -- How many bytes the fields of a format may take, and what its values have.
-use Rattle.std.proofs.Common.{◌≡◌, ◌≤◌, ◌<◌, ◌+◌, ◌-◌, ◌*◌, ◌∙◌, ◌⊎◌, ℕ, zero, suc, Bool, true, false, cond, ◌&&◌, eqb, List, [], ◌∷◌, ◌++◌, length, take, drop, leb, Option, Some, None, Result, Ok, Err, refl, sym, ap, subst, inl, inr, arith, append_assoc}
+use Rattle.std.proofs.Common.{◌≡◌, ◌≤◌, ◌<◌, ◌+◌, ◌-◌, ◌*◌, ◌∙◌, ℕ, zero, suc, Bool, true, false, cond, ◌&&◌, eqb, List, [], ◌∷◌, ◌++◌, length, take, drop, leb, Option, Some, None, Ok, Err, refl, sym, ap, subst, inl, inr, arith, append_assoc}
 use Rattle.std.specs.Int.{Width, byte_len, from_be_bytes}
 use Rattle.std.proofs.lemmas.Bool.{and_parts, leb-true, cases_lt, eqb-true}
-use Rattle.std.proofs.lemmas.List.{length-append, length-drop, length-take, length-take-le, take-append-drop, take_all, take-append-le}
+use Rattle.std.proofs.lemmas.List.{length-append, length-drop, length-take-le, take-append-drop, take_all, take-append-le}
 use Rattle.heco_fields.specs.Readings.{Reading, reading}
 use Rattle.heco_fields.proofs.Laws.{Law, ok_is}
-use Rattle.heco_fields.specs.Formats.{Format, Value, Field, ◌>>=◌ as ◌then◌, many, number, within, after, joined, BreaksAt, IsBroken}
+use Rattle.heco_fields.specs.Formats.{Format, Value, Field, ◌>>=◌ as ◌then◌, many, within, after, joined, BreaksAt, IsBroken}
 
 -- whatever is spelled takes at most so many bytes, and its value has the property
 unfoldable pub Spans : {A : Type 0} → ℕ → (A → Type 0) → Format A → Type 0

@@ -19,10 +19,7 @@ fn beside(c: &mut Cons, v: NodeId, r: u16, w: NodeId) -> Result<NodeId, Memory>
     ensures stands { Extends 2 c.old c.new }
     ensures fits { (slots modulus : ℕ) (es : Seq SNode) → 0 < r → r < slots → AllFit slots modulus es c.old → AllFit slots modulus es c.new }
 {
-    let turned = match c.put(VNode::Turn { r, v: w }) {
-        Ok(id) => id,
-        Err(e) => return Err(e),
-    };
+    let turned = c.put(VNode::Turn { r, v: w })?;
     c.put(VNode::Add { v, w: turned })
 }
 
@@ -65,10 +62,8 @@ fn low_bit(
     if !set {
         return Ok(low);
     }
-    match included(c, power, width, low) {
-        Ok(id) => Ok(Some(id)),
-        Err(e) => Err(e),
-    }
+    let folded = included(c, power, width, low)?;
+    Ok(Some(folded))
 }
 
 /// The node of the sum of `len` consecutive slots of `v`, by doubling. Earlier nodes stand, and at most 36 are added.
@@ -86,14 +81,8 @@ pub fn fold_run(c: &mut Cons, v: NodeId, len: u32) -> Result<NodeId, Memory>
     let mut rest = len;
     let mut low = None;
     while rest > 1 {
-        low = match low_bit(c, power, width, low, rest % 2 == 1) {
-            Ok(new) => new,
-            Err(e) => return Err(e),
-        };
-        power = match beside(c, power, width, power) {
-            Ok(id) => id,
-            Err(e) => return Err(e),
-        };
+        low = low_bit(c, power, width, low, rest % 2 == 1)?;
+        power = beside(c, power, width, power)?;
         width *= 2;
         rest /= 2;
     }

@@ -10,7 +10,7 @@ use Rattle.heco_circuit.specs.Circuits.{IsCircuit}
 use Rattle.heco_circuit.specs.Plans.{Plan}
 use Rattle.heco_circuit.proofs.QuietLaw.{quiet_law}
 use Rattle.heco_texts.specs.Answers.{HaveFit}
-use Rattle.heco_written.specs.WrittenForm.{Home}
+use Rattle.heco_written.specs.WrittenForm.{WrittenHome}
 use Rattle.heco_thrift.specs.Thrift.{bounds_of, gate_bounds, weighs, bounds_where, IsThrifty}
 use Rattle.heco_rewrites.specs.Needed.{has}
 use Rattle.heco_plainvec.specs.Gathering.{chosen, HasRoom}
@@ -31,14 +31,14 @@ quiet_gates c valid = All-drop IsQuiet (length c.inputs) (bounds_of c) (quiet_la
 is_head : (a : ℕ) (xs ys : List ℕ) → xs ≡ a ∷ ys → has xs a ≡ true
 is_head a xs ys e = ap (λ zs. has zs a) e ∙ rw (eq-eqb a a refl) refl
 
-bounds_kept : (c : Plan) (homes : List Home) → IsCircuit (gathered c) → bounds_where (weighs c) c homes → bounds_where (weighs (gathered c)) (gathered c) homes
+bounds_kept : (c : Plan) (homes : List WrittenHome) → IsCircuit (gathered c) → bounds_where (weighs c) c homes → bounds_where (weighs (gathered c)) (gathered c) homes
 bounds_kept c homes valid h = by_chosen (chosen c) refl
   where
     by_chosen : (xs : List ℕ) → chosen c ≡ xs → bounds_where (weighs (gathered c)) (gathered c) homes
     by_chosen [] e = subst (λ d. bounds_where (weighs d) d homes) (sym (stays_as_it_is c e)) h
     by_chosen (a ∷ xs) e = subst (λ b. bounds_where b (gathered c) homes) (sym (weighs_where_chosen c a (is_head a (chosen c) xs e))) (quiet_gates (gathered c) valid)
 
-module _ (c : Plan) (homes : List Home) (valid : IsCircuit (gathered c)) (kept : KeepsTheRest c (gathered c)) (thrift : IsThrifty c homes) where
+module _ (c : Plan) (homes : List WrittenHome) (valid : IsCircuit (gathered c)) (kept : KeepsTheRest c (gathered c)) (thrift : IsThrifty c homes) where
   thrifty : IsThrifty (gathered c) homes
   thrifty = record {
     gates = omega (arith, kept.gates, thrift.gates);

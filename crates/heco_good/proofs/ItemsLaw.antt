@@ -1,7 +1,6 @@
 -- A circuit whose elements of outputs have the values of the source's terms, one by one, is good.
-use Rattle.std.proofs.Common.{◌≡◌, ◌∙◌, ℕ, ◌<◌, ◌≤◌, true, false, List, [], ◌∷◌, length, map, Ok, refl, sym, ap, subst, arith, if◌then◌else◌, ◌==◌}
+use Rattle.std.proofs.Common.{◌≡◌, ◌∙◌, ℕ, ◌≤◌, true, false, List, [], ◌∷◌, length, map, Ok, refl, sym, ap, subst}
 use Rattle.std.specs.Prelude.{All}
-use Rattle.std.proofs.lemmas.Bool.{cond_both}
 use Rattle.heco_nums.specs.Presets.{modulus_of, slots_of}
 use Rattle.heco_nums.specs.declared.shape.Shape.{Shape}
 use Rattle.heco_syntax.specs.declared.tree.Source.{Source}
@@ -18,18 +17,11 @@ use Rattle.heco_texts.specs.Answers.{HaveFit}
 use Rattle.heco_written.specs.ScalarTerm.{ScalarTerm, IsMade, is_number, scalar_value}
 use Rattle.heco_written.specs.World.{World}
 use Rattle.heco_thrift.specs.Homes.{all_cells, is_number_cell}
-use Rattle.heco_thrift.proofs.HeldValues.{modulus_pos}
+use Rattle.heco_nums.proofs.PresetCases.{modulus_pos}
 use Rattle.heco_good.specs.Good.{Good, preset_named, modulus, slots, homes_of}
 use Rattle.heco_good.specs.Placed.{ExecutesByTerms}
 use Rattle.heco_thrift.proofs.Flat.{joined, lengths, map_joined, map_flat, rows_from_items, all_joined, lengths_map, lengths_flat}
 use Rattle.heco_good.proofs.SourceInputs.{rows_of_inputs, short_inputs}
-
-pub slots_pos : (id : ℕ) → 0 < slots_of id
-slots_pos id =
-    cond_both (id == 1) 8 (if id == 2 then 32 else if id == 3 then 64 else if id == 4 then 32 else 512) (λ t. 0 < t) (λ e. omega arith) (λ e.
-    cond_both (id == 2) 32 (if id == 3 then 64 else if id == 4 then 32 else 512) (λ t. 0 < t) (λ e. omega arith) (λ e.
-    cond_both (id == 3) 64 (if id == 4 then 32 else 512) (λ t. 0 < t) (λ e. omega arith) (λ e.
-    cond_both (id == 4) 32 512 (λ t. 0 < t) (λ e. omega arith) (λ e. omega arith))))
 
 output_lengths : (outputs : List Output) → map (λ s. s.len) (map shape_of outputs) ≡ map (λ o. length o.cells) outputs
 output_lengths [] = refl

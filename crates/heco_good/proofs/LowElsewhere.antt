@@ -14,25 +14,25 @@ use Rattle.heco_circuit.specs.declared.gate.Cell.{Cell}
 use Rattle.heco_circuit.specs.declared.gate.Cell.TheVariants.{Number, Slot}
 use Rattle.heco_circuit.specs.declared.gate.Gate.{Gate}
 use Rattle.heco_circuit.specs.declared.gate.Output.{Output}
+use Rattle.heco_circuit.proofs.Lengths.{length-input_parts, length-fresh_bounds}
 use Rattle.heco_written.specs.Bound.{bound, greatest_bound, scheme_of}
-use Rattle.heco_written.specs.WrittenForm.{Home, Known, At, vectors_of}
+use Rattle.heco_written.specs.WrittenForm.{WrittenHome, Known, At, vectors_of}
 use Rattle.heco_thrift.specs.Homes.{all_cells}
 use Rattle.heco_thrift.specs.Thrift.{bounds_of, gate_bounds, IsWithin, IsLow}
 use Rattle.heco_rewrites.specs.Wires.{maker, cell_over, first_wires}
 use Rattle.heco_rewrites.proofs.Along.{along_parts, along_long}
-use Rattle.heco_plainvec.specs.Gathered.{source, first_multiple, stays, place, name, gathered_gate, gathered_gates, gathered_vectors, gathered}
+use Rattle.heco_rewrites.proofs.Outputs.{cells_stand, zip_outputs}
+use Rattle.heco_plainvec.specs.Gathered.{source, first_multiple, stays, staying_below, name, gathered_gate, gathered_gates, gathered_vectors, gathered}
 use Rattle.heco_plainvec.proofs.KeptLaw.{keeps_the_rest}
 use Rattle.heco_plainvec.proofs.Images.{IsKept, IsWeighed, image_is}
 use Rattle.heco_plainvec.proofs.Leaders.{IsSource, source_is, leader_of, first_source, first_stays, first_below}
 use Rattle.heco_plainvec.proofs.Meaning.{same_bound}
 use Rattle.heco_plainvec.proofs.NothingMore.{IsFound, found_in}
 use Rattle.heco_plainvec.proofs.Numbered.{get_is, get-length}
-use Rattle.heco_plainvec.proofs.Outputs.{cells_stand}
 use Rattle.heco_plainvec.proofs.Places.{place_inputs, place_before, place_grows, place_apart, name_itself}
 use Rattle.heco_plainvec.proofs.Valid.{no_rows}
-use Rattle.heco_plainvec.proofs.Whole.{Valid, valid, length-input_parts, length-fresh_bounds, whole}
+use Rattle.heco_plainvec.proofs.Whole.{Valid, valid, whole}
 use Rattle.heco_peep.specs.NoWorse.{weighed_by, is_weighed, AreBelowElsewhere}
-use Rattle.heco_peep.proofs.Outputs.{zip_outputs}
 use Rattle.heco_peep.proofs.Products.{maker_weighs}
 use Rattle.heco_peep.proofs.Quiet.{bounds_long, below_most}
 use Rattle.heco_good.specs.Compiled.{IsWithinElsewhere, IsLowElsewhere}
@@ -82,7 +82,7 @@ module _ (c : Plan) (is : IsCircuit c) where
 
   -- ---- elements
   -- the wire that stands for a multiple that goes is that of a product
-  many : place c (n + length c.gates) ≡ n + length (gathered_gates c)
+  many : staying_below c (n + length c.gates) ≡ n + length (gathered_gates c)
   many =
       let w = whole c (no_rows c) v (length-map c.inputs (λ s. _)) in
       let a = w.swept.new_long in
@@ -109,15 +109,15 @@ module _ (c : Plan) (is : IsCircuit c) where
       let chosen_is = (source_is c wire of s).is_chosen in
       let src : source c first ≡ Some of = first_source c of chosen_is in
       let stands : stays c first ≡ true = first_stays c of chosen_is in
-      let named : name c wire ≡ place c first = ap (place c) (leader_of c wire of s) in
+      let named : name c wire ≡ staying_below c first = ap (staying_below c) (leader_of c wire of s) in
       let m : IsSource c first of = source_is c first of src in
       let number = m.number in
       let below = first_below c wire of s in
       let low = place_before c first (n + length c.gates) stands (omega (arith, below, l)) in
       let base = place_inputs c n (omega arith) in
       let grows = place_grows c n first (omega (arith, number)) in
-      let i : ℕ = place c first - n in
-      let at : n + i ≡ place c first = omega (arith, grows, base) in
+      let i : ℕ = staying_below c first - n in
+      let at : n + i ≡ staying_below c first = omega (arith, grows, base) in
       let count = many in
       let r = get_is (gathered_gates c) i (omega (arith, at, low, count)) in
       let f : IsFound c i r.0 = found_in c i r.0 r.1 in
@@ -137,7 +137,7 @@ module _ (c : Plan) (is : IsCircuit c) where
 
   -- what is within its home stays so, or a product makes its wire
   abbrev Follows : Cell → Cell → Type 0
-  Follows x y = (home : Home) → IsWithin c x home → IsWithinElsewhere (gathered c) y home
+  Follows x y = (home : WrittenHome) → IsWithin c x home → IsWithinElsewhere (gathered c) y home
 
   at_gathered : (a : ℕ) → is_weighed (gathered c) a ≡ weighed_by (maker n (gathered_gates c) a)
   unfolding gathered
@@ -158,12 +158,12 @@ module _ (c : Plan) (is : IsCircuit c) where
   cell_follows i j o (Number d) e q = λ home h. tt
   cell_follows i j o (Slot wire slot) e q = slot_follows wire slot (wire_below wire slot (cells_stand (modulus_of c.preset) (slots_of c.preset) c.inputs (wire_parts c) _ c.outputs i j o (Slot wire slot) v.outputs e q))
 
-  pub cells_within : (homes : List Home) → AllZip (IsWithin c) (all_cells c) homes → AllZip (IsWithinElsewhere (gathered c)) (all_cells (gathered c)) homes
+  pub cells_within : (homes : List WrittenHome) → AllZip (IsWithin c) (all_cells c) homes → AllZip (IsWithinElsewhere (gathered c)) (all_cells (gathered c)) homes
   unfolding gathered
   cells_within homes h =
       zip_through Follows (IsWithin c) (IsWithinElsewhere (gathered c)) (λ x y home f w. f home w) (all_cells c) (all_cells (gathered c)) homes (zip_outputs Follows (name c) c.outputs cell_follows) h
 
-  pub low_elsewhere : (homes : List Home) → IsLow c homes → IsLowElsewhere (gathered c) homes
+  pub low_elsewhere : (homes : List WrittenHome) → IsLow c homes → IsLowElsewhere (gathered c) homes
   unfolding gathered
   low_elsewhere homes low = record {
     gates = gates_below (greatest_bound (scheme_of c.preset) (vectors_of homes)) low.gates;

@@ -13,7 +13,7 @@ use Rattle.heco_circuit.specs.declared.gate.Gate.{Gate}
 use Rattle.heco_circuit.specs.declared.gate.Output.{Output}
 use Rattle.heco_texts.specs.Answers.{HaveFit}
 use Rattle.heco_written.specs.Bound.{bound, greatest_bound, scheme_of}
-use Rattle.heco_written.specs.WrittenForm.{Home, Known, At, vectors_of}
+use Rattle.heco_written.specs.WrittenForm.{WrittenHome, Known, At, vectors_of}
 use Rattle.heco_thrift.specs.Homes.{all_cells, is_number_cell}
 use Rattle.heco_thrift.specs.Thrift.{bounds_of, gate_bounds, is_weighing, weighs, bounds_where, IsWithin, IsLow, IsThrifty}
 use Rattle.heco_thrift.proofs.Flat.{lengths, map_flat, rows_from_items, lengths_flat}
@@ -82,7 +82,7 @@ module _ (c d : Plan) (w : IsNoWorse c d) where
       (sym (map_flat is_number_cell (λ (o : Output). o.cells) d.outputs) ∙ numbers_of c d (all_cells c) (all_cells d) w.cells ∙ map_flat is_number_cell (λ (o : Output). o.cells) c.outputs)
 
   -- ---- bounds
-  module _ (homes : List Home) (low : IsLowElsewhere c homes) (none : weighs d ≡ false) where
+  module _ (homes : List WrittenHome) (low : IsLowElsewhere c homes) (none : weighs d ≡ false) where
     low_gates : All (λ e. e ≤ greatest_bound (scheme_of d.preset) (vectors_of homes)) (gate_bounds d)
     low_gates =
         let most : ℕ = greatest_bound (scheme_of c.preset) (vectors_of homes) in
@@ -90,7 +90,7 @@ module _ (c d : Plan) (w : IsNoWorse c d) where
         subst (λ id. All (λ e. e ≤ greatest_bound (scheme_of id) (vectors_of homes)) (gate_bounds d)) (sym w.preset)
         (all_below_most (bounds_of d) (length d.inputs) (length d.gates) most (bounds_many d) (λ i l. below (length d.inputs + i) (omega arith) (omega (arith, l)) (none_weighed d (length d.inputs + i) none)))
 
-    cell_within : (x y : Cell) (home : Home) → IsSameCell c d x y → IsWithinElsewhere c x home → IsWithin d y home
+    cell_within : (x y : Cell) (home : WrittenHome) → IsSameCell c d x y → IsWithinElsewhere c x home → IsWithin d y home
     cell_within (Number m) (Number k) home s h = tt
     cell_within (Number m) (Slot v j) home s h = absurd s
     cell_within (Slot u i) (Number k) home s h = tt
@@ -107,14 +107,14 @@ module _ (c d : Plan) (w : IsNoWorse c d) where
     low_again : IsLow d homes
     low_again = record { gates = low_gates; outputs = zip_through (IsSameCell c d) (IsWithinElsewhere c) (IsWithin d) cell_within (all_cells c) (all_cells d) homes w.cells low.outputs }
 
-  bounds_again : (homes : List Home) → IsLowElsewhere c homes → bounds_where (weighs d) d homes
+  bounds_again : (homes : List WrittenHome) → IsLowElsewhere c homes → bounds_where (weighs d) d homes
   bounds_again homes low = by_test (weighs d) refl
     where
       by_test : (b : Bool) → weighs d ≡ b → bounds_where b d homes
       by_test true e = quiet_gates d w.valid
       by_test false e = low_again homes low e
 
-  thrifty_again : (homes : List Home) → IsLowElsewhere c homes → IsThrifty c homes → IsThrifty d homes
+  thrifty_again : (homes : List WrittenHome) → IsLowElsewhere c homes → IsThrifty c homes → IsThrifty d homes
   thrifty_again homes low t = record {
     gates = let a = w.gates in let b = t.gates in omega (arith, a, b);
     late_gates = let a = w.gates in let b = t.late_gates in omega (arith, a, b);

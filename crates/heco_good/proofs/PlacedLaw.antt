@@ -2,6 +2,7 @@
 use Rattle.std.proofs.Common.{◌≡◌, ◌∙◌, ℕ, true, false, List, [], map, sym, ap}
 use Rattle.std.specs.Prelude.{All}
 use Rattle.heco_nums.specs.Presets.{modulus_of, slots_of}
+use Rattle.heco_nums.proofs.PresetCases.{modulus_pos, slots_pos}
 use Rattle.heco_syntax.specs.declared.tree.Source.{Source}
 use Rattle.heco_types.specs.Shapes.{shapes_of}
 use Rattle.heco_circuit.specs.Plans.{Plan}
@@ -12,14 +13,14 @@ use Rattle.heco_written.specs.ScalarTerm.{ScalarTerm, IsMade, is_number, scalar_
 use Rattle.heco_written.specs.World.{World}
 use Rattle.heco_written.specs.WrittenForm.{home_value}
 use Rattle.heco_thrift.specs.Homes.{all_cells, is_number_cell, world_of}
-use Rattle.heco_thrift.proofs.HeldValues.{held_values, modulus_pos}
+use Rattle.heco_thrift.proofs.HeldValues.{held_values}
 use Rattle.heco_good.specs.Good.{preset_named, modulus, slots, homes_of}
 use Rattle.heco_circuit.specs.Circuits.{IsCircuit}
 use Rattle.heco_thrift.specs.Placed.{IsPlaced}
 use Rattle.heco_good.specs.Placed.{AreTerms, PlacedIsGood}
 use Rattle.heco_thrift.proofs.Flat.{joined, map_flat}
 use Rattle.heco_thrift.proofs.HomeValues.{homes_hold, homes_known, cells_known}
-use Rattle.heco_good.proofs.ItemsLaw.{slots_pos, world, made, fitting, good_by_items}
+use Rattle.heco_good.proofs.ItemsLaw.{world, made, fitting, good_by_items}
 
 module _ (source : Source) (c : Plan) (terms : List (List ScalarTerm)) (are : AreTerms source terms) (valid : IsCircuit c)
     (placed : IsPlaced (preset_named source) (shapes_of false source.ports) (shapes_of true source.ports) (homes_of source terms) c) where

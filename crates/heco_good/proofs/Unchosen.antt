@@ -13,7 +13,7 @@ use Rattle.heco_thrift.specs.Thrift.{is_weighing, weighs}
 use Rattle.heco_rewrites.specs.Needed.{has}
 use Rattle.heco_rewrites.specs.Wires.{over, cell_over, output_over, maker}
 use Rattle.heco_plainvec.specs.Gathering.{cell_only, vector, chosen}
-use Rattle.heco_plainvec.specs.Gathered.{source_where, source, first_multiple, vector_number, stays, place, name, gathered_gate, gathered_gates, gathered_vectors, gathered}
+use Rattle.heco_plainvec.specs.Gathered.{source_where, source, first_multiple, vector_number, stays, staying_below, name, gathered_gate, gathered_gates, gathered_vectors, gathered}
 use Rattle.heco_plainvec.proofs.Leaders.{source_stays, first_source, first_stays, source_is}
 use Rattle.heco_plainvec.proofs.Numbered.{any_there, there}
 use Rattle.heco_plainvec.proofs.Places.{place_kept, name_itself}
@@ -52,11 +52,11 @@ module _ (c : Plan) (none : chosen c ≡ []) where
   all_stay : (wire : ℕ) → stays c wire ≡ true
   all_stay wire = source_stays c wire (no_source wire)
 
-  place_itself : (wire : ℕ) → place c wire ≡ wire
+  place_itself : (wire : ℕ) → staying_below c wire ≡ wire
   place_itself zero = refl
   place_itself (suc wire) =
       let one : suc wire ≡ wire + 1 = omega arith in
-      ap (place c) one ∙ place_kept c wire (all_stay wire) ∙ ap (λ n. n + 1) (place_itself wire) ∙ sym one
+      ap (staying_below c) one ∙ place_kept c wire (all_stay wire) ∙ ap (λ n. n + 1) (place_itself wire) ∙ sym one
 
   named_itself : (wire : ℕ) → name c wire ≡ wire
   named_itself wire = name_itself c wire (no_source wire) ∙ place_itself wire

@@ -6,7 +6,7 @@ use Rattle.heco_circuit.specs.Plans.{Plan}
 use Rattle.heco_circuit.specs.declared.gate.Cell.{Cell}
 use Rattle.heco_circuit.specs.declared.gate.Cell.TheVariants.{Number, Slot}
 use Rattle.heco_written.specs.Bound.{greatest_bound, scheme_of}
-use Rattle.heco_written.specs.WrittenForm.{Home, vectors_of}
+use Rattle.heco_written.specs.WrittenForm.{WrittenHome, vectors_of}
 use Rattle.heco_thrift.specs.Homes.{all_cells}
 use Rattle.heco_thrift.specs.Thrift.{IsWithin}
 use Rattle.heco_plainvec.specs.Gathering.{finds}
@@ -16,13 +16,13 @@ use Rattle.heco_peep.specs.Passed.{IsPassed}
 use Rattle.heco_good.specs.Good.{homes_of, Good}
 
 -- an element is within its home where no product by a plain vector makes its wire
-abbrev pub IsWithinElsewhere : Plan → Cell → Home → Type 0
+abbrev pub IsWithinElsewhere : Plan → Cell → WrittenHome → Type 0
 IsWithinElsewhere c (Slot wire slot) home = is_weighed c wire ≡ false → IsWithin c (Slot wire slot) home
 IsWithinElsewhere c (Number n) home = Unit {0}
 
 -- but for products by plain vectors, no gate's bound is above the greatest of the homes, and each element's wire is within its
 -- home
-pub record IsLowElsewhere (c : Plan) (homes : List Home) : Type 0 where
+pub record IsLowElsewhere (c : Plan) (homes : List WrittenHome) : Type 0 where
   pub gates : AreBelowElsewhere (greatest_bound (scheme_of c.preset) (vectors_of homes)) c
   pub outputs : AllZip (IsWithinElsewhere c) (all_cells c) homes
 

@@ -11,7 +11,7 @@ use Rattle.heco_circuit.specs.Plans.{Plan, shape_of}
 use Rattle.heco_meaning.specs.Meanings.{meaning_of}
 use Rattle.heco_texts.specs.Answers.{HaveFit}
 use Rattle.heco_written.specs.ScalarTerm.{ScalarTerm, is_number}
-use Rattle.heco_written.specs.WrittenForm.{Home, written}
+use Rattle.heco_written.specs.WrittenForm.{WrittenHome, written}
 use Rattle.heco_thrift.specs.Homes.{is_number_cell}
 use Rattle.heco_thrift.specs.Thrift.{IsThrifty}
 
@@ -26,7 +26,7 @@ abbrev pub slots : Source → ℕ
 slots source = slots_named source.params.text
 
 -- the written homes of the elements of all outputs, in order
-abbrev pub homes_of : Source → List (List ScalarTerm) → List Home
+abbrev pub homes_of : Source → List (List ScalarTerm) → List WrittenHome
 homes_of source terms = map (λ x. (written (modulus source) (slots source) x).home) (flat_map (λ row. row) terms)
 
 -- the circuit is valid, has the preset, the inputs and the outputs of the source, a number exactly where a term is one, for

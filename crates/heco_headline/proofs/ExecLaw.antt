@@ -1,18 +1,18 @@
 -- The chain for a good circuit that was chosen after the material was judged.
-use Rattle.std.proofs.Common.{◌≡◌, ◌∙◌, ℕ, ◌+◌, ◌≤◌, ◌&&◌, List, length, Ok, sym, ap, ap₂, subst, inl, inr, if◌then◌else◌, nat_le}
+use Rattle.std.proofs.Common.{◌≡◌, ◌∙◌, ℕ, ◌+◌, ◌&&◌, List, length, Ok, sym, ap, ap₂, subst, if◌then◌else◌, nat_le}
 use Rattle.std.proofs.lemmas.Bool.{and_parts, leb-true}
-use Rattle.heco_nums.specs.Presets.{degree_of, weight_of, error_of, slots_of}
+use Rattle.heco_nums.specs.Presets.{degree_of, hamming_weight_of, error_of, slots_of}
 use Rattle.heco_nums.specs.declared.preset.Preset.{Preset}
 use Rattle.heco_nums.specs.declared.shape.Shape.{Shape}
 use Rattle.heco_nums.specs.declared.shape.Values.{Values}
-use Rattle.heco_nums.proofs.PresetFacts.{one_of_five}
+use Rattle.heco_nums.proofs.OnePreset.{row_number_is}
 use Rattle.heco_circuit.specs.Circuits.{IsCircuit}
 use Rattle.heco_circuit.specs.Plans.{Plan as Circuit, are_inputs, are_vectors, are_gates, are_outputs}
 use Rattle.heco_circuit.specs.Validity.{is_between}
 use Rattle.heco_execution.specs.Outcomes.{Outcome}
 use Rattle.heco_material.specs.KeyLists.{KeyLists, IsKeyMaterial, IsEncMaterial}
 use Rattle.heco_material.specs.declared.words.EncRow.{EncRow}
-use Rattle.heco_products.specs.PresetRows.{preset_of, row_number}
+use Rattle.heco_nums.specs.PresetRows.{preset_of}
 use Rattle.heco_sources.specs.Inputs.{input_shapes, IsInput}
 use Rattle.heco_syntax.specs.declared.tree.Source.{Source}
 use Rattle.heco_written.specs.Needs.{turn_amounts}
@@ -26,15 +26,6 @@ use Rattle.heco_headline.specs.Headline.{IsChain, IsPlainText}
 use Rattle.heco_headline.proofs.Chain as chain
 
 -- ---- the preset of a valid circuit
-
-row_number_is : (id : ℕ) → 1 ≤ id → id ≤ 5 → row_number id ≡ id
-row_number_is id low high = elim (one_of_five id low high) [
-  | inl e ↦ ap row_number e ∙ sym e
-  | inr (inl e) ↦ ap row_number e ∙ sym e
-  | inr (inr (inl e)) ↦ ap row_number e ∙ sym e
-  | inr (inr (inr (inl e))) ↦ ap row_number e ∙ sym e
-  | inr (inr (inr (inr e))) ↦ ap row_number e ∙ sym e
-]
 
 pub preset_number : (c : Circuit) → IsCircuit c → (preset_of c.preset).id ≡ c.preset
 unfolding preset_of
@@ -75,16 +66,16 @@ module _ (source : Source) (c : Circuit) (k : KeyLists) (material : List EncRow)
       let p : Preset = preset_of c.preset in
       subst (λ count. IsKeyMaterial p.n p.h p.b count k) same_keys
       (subst (λ b. IsKeyMaterial p.n p.h b (written_keys source fits.terms) k) (same_number error_of p.b p.row.6)
-      (subst (λ h. IsKeyMaterial p.n h (error_of (preset_named source)) (written_keys source fits.terms) k) (same_number weight_of p.h p.row.5)
-      (subst (λ n. IsKeyMaterial n (weight_of (preset_named source)) (error_of (preset_named source)) (written_keys source fits.terms) k) (same_number degree_of p.n p.row.2) fits.keys)))
+      (subst (λ h. IsKeyMaterial p.n h (error_of (preset_named source)) (written_keys source fits.terms) k) (same_number hamming_weight_of p.h p.row.5)
+      (subst (λ n. IsKeyMaterial n (hamming_weight_of (preset_named source)) (error_of (preset_named source)) (written_keys source fits.terms) k) (same_number degree_of p.n p.row.2) fits.keys)))
 
   words : let p = preset_of c.preset in IsEncMaterial p.n p.h p.b (length c.inputs) material
   words =
       let p : Preset = preset_of c.preset in
       subst (λ (shapes : List Shape). IsEncMaterial p.n p.h p.b (length shapes) material) (sym good.inputs)
       (subst (λ b. IsEncMaterial p.n p.h b (length (input_shapes source)) material) (same_number error_of p.b p.row.6)
-      (subst (λ h. IsEncMaterial p.n h (error_of (preset_named source)) (length (input_shapes source)) material) (same_number weight_of p.h p.row.5)
-      (subst (λ n. IsEncMaterial n (weight_of (preset_named source)) (error_of (preset_named source)) (length (input_shapes source)) material) (same_number degree_of p.n p.row.2) fits.words)))
+      (subst (λ h. IsEncMaterial p.n h (error_of (preset_named source)) (length (input_shapes source)) material) (same_number hamming_weight_of p.h p.row.5)
+      (subst (λ n. IsEncMaterial n (hamming_weight_of (preset_named source)) (error_of (preset_named source)) (length (input_shapes source)) material) (same_number degree_of p.n p.row.2) fits.words)))
 
   module _ (text : List ℕ) (v : Values) (input : IsInput source text v) where
     links : IsChain source c (preset_of c.preset) text v k material

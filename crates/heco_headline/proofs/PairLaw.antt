@@ -7,7 +7,7 @@ use Rattle.heco_execution.specs.Outcomes.{Outcome}
 use Rattle.heco_material.specs.KeyLists.{KeyLists}
 use Rattle.heco_material.specs.declared.words.EncRow.{EncRow}
 use Rattle.heco_products.specs.Decrypting.{row_text}
-use Rattle.heco_products.specs.PresetRows.{preset_of}
+use Rattle.heco_nums.specs.PresetRows.{preset_of}
 use Rattle.heco_products.proofs.Pairs.{rows_fit}
 use Rattle.heco_products.proofs.Products.{fit_count}
 use Rattle.heco_run_laws.specs.Carried.{two_row_messages}

@@ -1,6 +1,6 @@
 -- What `exec` gives: the files and the text that come of one good circuit, of material and of values.
 use Rattle.std.specs.Prelude.{◌≡◌, ℕ, ◌+◌, List, [], ◌∷◌, Ok, Err, length, if◌then◌else◌}
-use Rattle.heco_nums.specs.Presets.{degree_of, weight_of, error_of}
+use Rattle.heco_nums.specs.Presets.{degree_of, hamming_weight_of, error_of}
 use Rattle.heco_circuit.specs.CircuitFormat.{circuit_text}
 use Rattle.heco_circuit.specs.Plans.{Plan as Circuit}
 use Rattle.heco_execution.specs.Laws.{source_terms}
@@ -10,7 +10,7 @@ use Rattle.heco_material.specs.declared.words.EncRow.{EncRow}
 use Rattle.heco_nums.specs.declared.shape.Values.{Values}
 use Rattle.heco_products.specs.Decrypting.{outputs_text}
 use Rattle.heco_products.specs.Encrypting.{encrypted_inputs, inputs_file}
-use Rattle.heco_products.specs.PresetRows.{preset_of}
+use Rattle.heco_nums.specs.PresetRows.{preset_of}
 use Rattle.heco_sources.specs.Inputs.{input_shapes, IsInput}
 use Rattle.heco_syntax.specs.declared.tree.Source.{Source}
 use Rattle.heco_written.specs.Needs.{needs_relinearisation, turn_amounts}
@@ -42,8 +42,9 @@ source_keys source = keys_for source (source_terms (modulus source) source)
 pub record IsMaterialFor (source : Source) (k : KeyLists) (material : List EncRow) : Type 0 where
   pub terms : List (List ScalarTerm)
   pub execution : source_terms (modulus source) source ≡ Ok terms
-  pub keys : IsKeyMaterial (degree_of (preset_named source)) (weight_of (preset_named source)) (error_of (preset_named source)) (written_keys source terms) k
-  pub words : IsEncMaterial (degree_of (preset_named source)) (weight_of (preset_named source)) (error_of (preset_named source))
+  pub keys : IsKeyMaterial (degree_of (preset_named source)) (hamming_weight_of (preset_named source)) (error_of (preset_named source))
+      (written_keys source terms) k
+  pub words : IsEncMaterial (degree_of (preset_named source)) (hamming_weight_of (preset_named source)) (error_of (preset_named source))
       (length (input_shapes source)) material
 
 -- ---- what is written and printed

@@ -8,7 +8,7 @@ use Rattle.heco_nums.specs.declared.shape.Values.{Values}
 use Rattle.heco_products.specs.Decrypting.{row_text}
 use Rattle.heco_products.specs.Encrypting.{encrypted_pairs, pairs_file}
 use Rattle.heco_products.specs.KeyProducts.{circuit_key, evaluation_file, secret_file}
-use Rattle.heco_products.specs.PresetRows.{preset_of}
+use Rattle.heco_nums.specs.PresetRows.{preset_of}
 use Rattle.heco_products.specs.Results.{keys_of, results_file}
 use Rattle.heco_run_laws.specs.Results.{results_of}
 use Rattle.heco_run_laws.specs.Runs.{Ciphertext}

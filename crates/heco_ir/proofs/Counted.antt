@@ -1,5 +1,4 @@
-use Rattle.std.proofs.Common.{◌≡◌, ℕ, zero, suc, ◌-◌, List, [], ◌∷◌, refl, arith, length, true, ap, ◌∙◌, sym, get_or, map, nat_lt, inl, inr}
-use Rattle.std.specs.Prelude.{Contains}
+use Rattle.std.proofs.Common.{◌≡◌, ℕ, ◌-◌, List, [], ◌∷◌, refl, arith, length, true, ap, ◌∙◌, sym, get_or, map, nat_lt, inl, inr}
 use Rattle.std.specs.List.{list_any}
 use Rattle.heco_nums.proofs.Amounts.{contains_passing, passing_rising}
 use Rattle.heco_written.specs.VectorTerm.{VectorTerm, Input}

@@ -8,21 +8,21 @@ use Rattle.heco_ir.specs.Vectors.{vector_operands}
 use Rattle.heco_ir.specs.declared.vector.VNode.TheVariants.{Input as InputNode, Mul}
 use Rattle.heco_ir.specs.declared.scalar.SNode.{SNode}
 use Rattle.heco_ir.specs.Ranges.{Fits, AllFit, node_gates, gates_of_nodes}
-use Rattle.heco_ir.specs.Terms.{vector_term_over, vector_terms, HasTerm, Extends, weight, weight_of}
+use Rattle.heco_ir.specs.Terms.{vector_term_over, vector_terms, HasTerm, Extends, weight, total_weight}
 use Rattle.heco_ir.proofs.Built.{built-stands, length-built, slice_get_below}
 use Rattle.heco_ir.proofs.Unique.{vector_local, vector_terms-at}
 
-pub weight_of-append : (xs ys : List VNode) → weight_of (xs ++ ys) ≡ weight_of xs + weight_of ys
-weight_of-append [] ys = omega arith
-weight_of-append (x ∷ xs) ys = omega (arith, weight_of-append xs ys)
+pub total_weight-append : (xs ys : List VNode) → total_weight (xs ++ ys) ≡ total_weight xs + total_weight ys
+total_weight-append [] ys = omega arith
+total_weight-append (x ∷ xs) ys = omega (arith, total_weight-append xs ys)
 
 weight-some : (n : VNode) → 1 ≤ weight n
 weight-some (Mul v u) = omega arith
 weight-some n = omega arith
 
-length-weight_of : (xs : List VNode) → length xs ≤ weight_of xs
-length-weight_of [] = omega arith
-length-weight_of (x ∷ xs) = omega (arith, length-weight_of xs, weight-some x)
+length-total_weight : (xs : List VNode) → length xs ≤ total_weight xs
+length-total_weight [] = omega arith
+length-total_weight (x ∷ xs) = omega (arith, length-total_weight xs, weight-some x)
 
 pub gates_of_nodes-append : (xs ys : List VNode) → gates_of_nodes (xs ++ ys) ≡ gates_of_nodes xs + gates_of_nodes ys
 gates_of_nodes-append [] ys = omega arith
@@ -33,7 +33,7 @@ node_gates-weight (InputNode a) = omega arith
 node_gates-weight (Mul v u) = omega arith
 node_gates-weight n = omega arith
 
-gates_of_nodes-weight : (xs : List VNode) → gates_of_nodes xs ≤ weight_of xs
+gates_of_nodes-weight : (xs : List VNode) → gates_of_nodes xs ≤ total_weight xs
 gates_of_nodes-weight [] = omega arith
 gates_of_nodes-weight (x ∷ xs) = omega (arith, gates_of_nodes-weight xs, node_gates-weight x)
 
@@ -66,14 +66,14 @@ pub extends_more : {m k : ℕ} {a b c : List VNode} → Extends m a b → Extend
 extends_more {m} {k} {a} {b} {c} g h = record {
   added = g.added ++ h.added;
   is = h.is ∙ ap (λ x. x ++ h.added) g.is ∙ append_assoc a g.added h.added;
-  few = omega (arith, weight_of-append g.added h.added, g.few, h.few);
+  few = omega (arith, total_weight-append g.added h.added, g.few, h.few);
 }
 
 pub extends_weaken : {m : ℕ} {a b : List VNode} (k : ℕ) → m ≤ k → Extends m a b → Extends k a b
 extends_weaken k l h = record { added = h.added; is = h.is; few = omega (arith, h.few) }
 
 pub extends_length : {m : ℕ} {a b : List VNode} → Extends m a b → (length a ≤ length b) × (length b ≤ length a + m)
-extends_length {m} {a} {b} h = let e : length b ≡ length a + length h.added = ap length h.is ∙ length-append a h.added in (omega arith, omega (arith, h.few, length-weight_of h.added))
+extends_length {m} {a} {b} h = let e : length b ≡ length a + length h.added = ap length h.is ∙ length-append a h.added in (omega arith, omega (arith, h.few, length-total_weight h.added))
 
 pub term_stands : {m : ℕ} {a b : List VNode} (i : ℕ) → Extends m a b → i < length a → get_or (vector_terms b) i (Input 0) ≡ get_or (vector_terms a) i (Input 0)
 term_stands {m} {a} {b} i h l = ap (λ x. get_or (vector_terms x) i (Input 0)) h.is ∙ built-stands vector_term_over a h.added i (Input 0) l

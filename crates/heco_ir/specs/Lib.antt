@@ -7,3 +7,4 @@ pub mod Used
 pub mod Gates
 pub mod Ranges
 pub mod Unrolled
+pub mod Homes

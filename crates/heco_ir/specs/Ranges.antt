@@ -3,7 +3,7 @@ use Rattle.std.specs.Prelude.{ℕ, ◌+◌, ◌<◌, List, [], ◌∷◌, Contai
 use Rattle.heco_ir.specs.declared.scalar.SNode.{SNode}
 use Rattle.heco_ir.specs.declared.scalar.SNode.TheVariants.{Elem}
 use Rattle.heco_ir.specs.declared.vector.VNode.{VNode}
-use Rattle.heco_ir.specs.declared.vector.VNode.TheVariants.{Input, Neg, Add, Mul, Scale, Shift, Turn}
+use Rattle.heco_ir.specs.declared.vector.VNode.TheVariants.{Input, Mul, Scale, Shift, Turn}
 
 -- with this number of slots and modulus: constants and amounts are in range and not 0, inputs are those of elements
 abbrev pub Fits : ℕ → ℕ → List SNode → VNode → Type 0

@@ -52,12 +52,12 @@ abbrev pub weight : VNode → ℕ
 weight (Mul v u) = 2
 weight n = 1
 
-abbrev pub weight_of : List VNode → ℕ
-weight_of [] = 0
-weight_of (n ∷ ns) = weight n + weight_of ns
+abbrev pub total_weight : List VNode → ℕ
+total_weight [] = 0
+total_weight (n ∷ ns) = weight n + total_weight ns
 
 -- nodes stand, and at most some are added, a product counting two
 pub record Extends (most : ℕ) (old new : List VNode) : Type 0 where
   pub added : List VNode
   pub is : new ≡ old ++ added
-  pub few : weight_of added ≤ most
+  pub few : total_weight added ≤ most

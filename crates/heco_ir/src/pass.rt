@@ -45,14 +45,8 @@ fn rewrite_all<'b, D: Dialect, R: Rewrite<D>>(
     let mut ids = Vec::new(b);
     for i in 0..ir.len() {
         let n = rename::<D>(&ids, ir.node(NodeId(i)));
-        let id = match r.rewrite(n, &mut out) {
-            Ok(id) => id,
-            Err(e) => return Err(e),
-        };
-        match ids.push(id) {
-            Ok(()) => {}
-            Err(_) => return Err(Memory),
-        }
+        let id = r.rewrite(n, &mut out)?;
+        ids.push(id)?;
     }
     Ok((out, ids))
 }
@@ -69,16 +63,10 @@ pub fn run_pass<'b, D: Dialect, R: Rewrite<D>>(
         ≡ at_ids (values D.operands_of D.value w ir.now.0) ir.now.1) }
     ensures few { IfOk result (λ new. length new.0 ≤ length ir.now.0) }
 {
-    let (out, ids) = match rewrite_all(ir, b, r) {
-        Ok(x) => x,
-        Err(e) => return Err(e),
-    };
+    let (out, ids) = rewrite_all(ir, b, r)?;
     let mut roots = List::new(alloc);
     for root in ir.roots().as_slice() {
-        match roots.push(ids[root.0 as usize]) {
-            Ok(()) => {}
-            Err(e) => return Err(e),
-        }
+        roots.push(ids[root.0 as usize])?;
     }
     Ok(out.finish(roots))
 }

@@ -3,8 +3,8 @@ use Rattle.std.proofs.Common.{◌≡◌, ℕ, List, [], map, true, false, Ok, re
 use Rattle.heco_jobs.specs.declared.product.Planned.{Planned}
 use Rattle.heco_jobs.specs.declared.product.Product.{Product}
 use Rattle.heco_jobs.specs.Agents.{Agents, asking_none}
-use Rattle.heco_jobs.specs.Jobs.{Job, Give}
-use Rattle.heco_jobs.specs.Plans.{Plan, FitsPlan}
+use Rattle.heco_jobs.specs.Jobs.{Give}
+use Rattle.heco_jobs.specs.Plans.{Plan}
 use Rattle.heco_jobs.specs.Products.{Prints, Stores}
 use Rattle.heco_jobs.specs.Stages.{IsDecided}
 use Rattle.heco_jobs.proofs.PlanLaws.{fits_print, fits_store}

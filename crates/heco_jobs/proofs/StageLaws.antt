@@ -1,6 +1,6 @@
 -- Reading a file word and judging it, and going on with what it was read as.
 use Rattle.std.proofs.Common.{◌≡◌, ◌≤◌, ◌∙◌, ℕ, List, take, Option, Some, None, Result, Ok, Err, refl, sym, ap, subst, inl, inr, arith}
-use Rattle.std.specs.Prelude.{IfOk, IfErr, IsTrue}
+use Rattle.std.specs.Prelude.{IfErr, IsTrue}
 use Rattle.std.specs.Option.{option_map}
 use Rattle.std.proofs.lemmas.Option.{same_Some, none-some}
 use Rattle.heco_outside.specs.Causes.{Undisturbed}
@@ -14,10 +14,10 @@ use Rattle.heco_jobs.specs.declared.product.Product.{Product}
 use Rattle.heco_jobs.specs.Agents.{Agents}
 use Rattle.heco_jobs.specs.Endings.{Gathers}
 use Rattle.heco_jobs.specs.Jobs.{Job, Read, Judge, Give}
-use Rattle.heco_jobs.specs.Laws.{IsFault, IsReadFault, HasFiles, Quietly}
-use Rattle.heco_jobs.specs.Outsides.{Files, SameFiles}
+use Rattle.heco_jobs.specs.Laws.{IsFault, HasFiles, Quietly}
+use Rattle.heco_jobs.specs.Outsides.{Files}
 use Rattle.heco_jobs.specs.Plans.{Plan, IsOne, IsGatherCause, FitsPlan}
-use Rattle.heco_jobs.specs.Stages.{ReadsBytes, ReadsThing, IsReadCause, Settles, Judges, Gives, IsMild, ReadWord, IsBytesRead, IsThingRead, IsDecided, IsGathered}
+use Rattle.heco_jobs.specs.Stages.{ReadsBytes, ReadsThing, IsReadCause, Settles, Judges, Gives, IsMild, IsBytesRead, IsThingRead, IsDecided, IsGathered}
 use Rattle.heco_jobs.specs.Words.{name_of}
 
 -- files that are the same at each name

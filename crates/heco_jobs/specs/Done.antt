@@ -1,5 +1,5 @@
 -- What a job that is done has written and printed, of what it has read.
-use Rattle.std.specs.Prelude.{◌≡◌, ℕ, List, [], ◌∷◌, ◌++◌, Option, Some, unwrap_or, if◌then◌else◌}
+use Rattle.std.specs.Prelude.{◌≡◌, ℕ, List, [], ◌∷◌, ◌++◌, Some, unwrap_or, if◌then◌else◌}
 use Rattle.std.specs.Str.{bytes_eq}
 use Rattle.heco_jobs.specs.declared.product.Planned.{Planned}
 use Rattle.heco_jobs.specs.declared.product.Product.{Product}

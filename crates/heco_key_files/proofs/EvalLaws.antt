@@ -8,16 +8,16 @@ use Rattle.std.proofs.lemmas.List.Elements.{All-get_or, All-weaker}
 use Rattle.heco_nums.specs.declared.preset.Preset.{Preset}
 use Rattle.heco_nums.proofs.PresetFacts.{facts}
 use Rattle.heco_fields.specs.Formats.{Value, within, many, ◌>>=◌ as ◌then◌}
-use Rattle.heco_fields.specs.Runs.{stays}
+use Rattle.heco_nums.specs.Runs.{stays}
 use Rattle.heco_fields.proofs.Bools.{both_true}
 use Rattle.heco_fields.proofs.Laws.{Law, then_law, last_law, same_law}
 use Rattle.heco_fields.proofs.FieldLaws.{number_law, wide8}
 use Rattle.heco_fields.proofs.ManyLaws.{each_law}
-use Rattle.heco_scheme.specs.Bounds.{AreWords}
+use Rattle.heco_nums.specs.MaterialBounds.{AreWords}
 use Rattle.heco_scheme.specs.Keys.{AreRows}
 use Rattle.heco_lists.specs.ListFormat.{words, words_text}
 use Rattle.heco_lists.proofs.ListLaws.{words_law}
-use Rattle.heco_key_files.specs.KeyFiles.{EvalLists, eval_lists, bit, pair, switch_key, turns, evaluation, pair_text, switch_text, turns_text, lists_text, IsPair, IsSwitchKey, AreTurns, AreEvalLists}
+use Rattle.heco_key_files.specs.KeyFiles.{EvalLists, eval_lists, bit, pair, switch_key, turns, evaluation, pair_text, switch_text, turns_text, lists_text, IsPair, IsSwitchList, AreTurns, AreEvalLists}
 use Rattle.heco_key_files.proofs.TurnLaws.{turns_law}
 
 pair_law : (n s : ℕ) → Law (pair n s) pair_text (IsPair n)
@@ -30,21 +30,21 @@ pair_law n s =
     (λ a x h. ap (λ (t : List ℕ × List ℕ). t.0) (sym h.1)))
     (λ x _. refl) (λ x h. (h.0, h.1.0)) (λ x h. (h.0, (h.1, refl)))
 
-switch_key_law : (n s : ℕ) → Law (switch_key n s) switch_text (IsSwitchKey n)
+switch_key_law : (n s : ℕ) → Law (switch_key n s) switch_text (IsSwitchList n)
 unfolding switch_key switch_text
 switch_key_law n s = each_law (pair n) pair_text (IsPair n) (pair_law n) 29 0
 
 abbrev pub AreSwitches : ℕ → ℕ → List (List (List ℕ × List ℕ)) → Type 0
-AreSwitches n count keys = (length keys ≡ count) × All (IsSwitchKey n) keys
+AreSwitches n count keys = (length keys ≡ count) × All (IsSwitchList n) keys
 
 pub switches_law : (n count : ℕ) → Law (many (switch_key n) stays count 0) (flat_map switch_text) (AreSwitches n count)
-switches_law n count = each_law (switch_key n) switch_text (IsSwitchKey n) (switch_key_law n) count 0
+switches_law n count = each_law (switch_key n) switch_text (IsSwitchList n) (switch_key_law n) count 0
 
 -- a switch key that is read has its pairs of n places
-pub switches_rows : (n : ℕ) (keys : List (List (List ℕ × List ℕ))) → All (IsSwitchKey n) keys → All (AreRows n) keys
-switches_rows n keys h = All-weaker (IsSwitchKey n) (AreRows n) are_rows keys h
+pub switches_rows : (n : ℕ) (keys : List (List (List ℕ × List ℕ))) → All (IsSwitchList n) keys → All (AreRows n) keys
+switches_rows n keys h = All-weaker (IsSwitchList n) (AreRows n) are_rows keys h
   where
-    are_rows : (k : List (List ℕ × List ℕ)) → IsSwitchKey n k → AreRows n k
+    are_rows : (k : List (List ℕ × List ℕ)) → IsSwitchList n k → AreRows n k
     are_rows k h = record {
       count = h.0;
       firsts = λ i l. (All-get_or (IsPair n) k i ([], []) (omega (arith, h.0)) h.1).0.long;

@@ -9,8 +9,8 @@ use Rattle.heco_fields.proofs.Steps.{reading_then}
 use Rattle.heco_fields.proofs.FirstBroken.{judged_breaks, breaks_judged}
 use Rattle.heco_fields.proofs.Laws.{IsBytes, Law}
 use Rattle.heco_fields.proofs.FileLaws.{read_whole}
-use Rattle.heco_key_files.specs.declared.error.FileErr.{FileErr}
-use Rattle.heco_key_files.specs.declared.error.FileErr.TheVariants.{Malformed, WrongPreset, Count, Memory}
+use Rattle.heco_lists.specs.declared.error.FileErr.{FileErr}
+use Rattle.heco_lists.specs.declared.error.FileErr.TheVariants.{Malformed, WrongPreset, Count, Memory}
 use Rattle.heco_key_files.specs.Judging.{placed, wanted, behind, body_as, file_as, whole, Answers, HasCause, NamesPreset, NamesNoOther}
 use Rattle.heco_key_files.proofs.Headers.{header_read, reads_names, text_read, names_one, names_none}
 

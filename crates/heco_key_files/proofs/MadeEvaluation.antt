@@ -1,5 +1,5 @@
 -- The evaluation key that is made from key material has a file.
-use Rattle.std.proofs.Common.{◌≡◌, ◌∙◌, ℕ, ◌+◌, ◌<◌, Bool, List, [], length, get_or, sym, subst, arith}
+use Rattle.std.proofs.Common.{◌∙◌, ℕ, ◌+◌, ◌<◌, Bool, List, [], length, get_or, sym, subst, arith}
 use Rattle.std.specs.Prelude.{All}
 use lib.IntN.{ℤ}
 use Rattle.std.proofs.lemmas.List.Elements.{All-get_or, All-from_get_or}
@@ -8,15 +8,15 @@ use Rattle.heco_keys.proofs.MadeRows.{reduced_words, switch_part_words, row_is, 
 use Rattle.heco_material.specs.KeyLists.{KeyLists, IsKeyMaterial, IsSwitch}
 use Rattle.heco_material.specs.declared.words.SwitchWords.{SwitchWords}
 use Rattle.heco_ring.specs.Ring.{wholes, plus, negate, times}
-use Rattle.heco_scheme.specs.Bounds.{AreWords}
+use Rattle.heco_nums.specs.MaterialBounds.{AreWords}
 use Rattle.heco_scheme.specs.Keys.{key_part}
-use Rattle.heco_key_files.specs.KeyFiles.{AreEvalLists, AreTurns, IsPair, IsSwitchKey, bit, made_key}
+use Rattle.heco_key_files.specs.KeyFiles.{AreEvalLists, AreTurns, IsPair, IsSwitchList, bit, made_key}
 
 key_part_words : (n : ℕ) (s e : List ℤ) (a : List ℕ) → AreWords n (key_part n s a e)
 unfolding key_part
 key_part_words n s e a = reduced_words n (negate n (plus n (times n (wholes a) s) e))
 
-rows_are_pairs : (n b : ℕ) (s t : List ℤ) (w : SwitchWords) → IsSwitch n b w → IsSwitchKey n (switch_rows n s t w.rows)
+rows_are_pairs : (n b : ℕ) (s t : List ℤ) (w : SwitchWords) → IsSwitch n b w → IsSwitchList n (switch_rows n s t w.rows)
 rows_are_pairs n b s t w h = (
   rows_long n s t w.rows,
   All-from_get_or (IsPair n) (switch_rows n s t w.rows) ([], []) (λ i l.
@@ -26,10 +26,10 @@ rows_are_pairs n b s t w h = (
 )
 
 module _ (n h b slots : ℕ) (relin : Bool) (turns : List ℕ) (k : KeyLists) (amounts : AreTurns slots turns) (material : IsKeyMaterial n h b (bit relin + length turns) k) where
-  switches_are_keys : All (IsSwitchKey n) (all_rows n k.s relin turns k.switch)
-  switches_are_keys = All-from_get_or (IsSwitchKey n) (all_rows n k.s relin turns k.switch) [] (λ j l.
+  switches_are_keys : All (IsSwitchList n) (all_rows n k.s relin turns k.switch)
+  switches_are_keys = All-from_get_or (IsSwitchList n) (all_rows n k.s relin turns k.switch) [] (λ j l.
       let inside : j < length k.switch = omega (arith, length-all n k.s relin turns k.switch) in
-      subst (IsSwitchKey n) (sym (key_is n k.s relin turns k.switch j inside))
+      subst (IsSwitchList n) (sym (key_is n k.s relin turns k.switch j inside))
       (rows_are_pairs n b k.s (source_of n k.s (purpose relin turns j)) (get_or k.switch j no_rows) (All-get_or (IsSwitch n b) k.switch j no_rows inside material.switch)))
 
   pub made_evaluation : AreEvalLists n slots (made_key n relin turns k)

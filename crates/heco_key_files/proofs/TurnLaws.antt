@@ -7,7 +7,7 @@ use Rattle.std.proofs.lemmas.Bool.{leb-true, le-leb, ltb-true, lt-ltb}
 use Rattle.std.proofs.lemmas.List.Elements.{All-nil, All-cons, All-head, All-tail}
 use Rattle.heco_nums.specs.Needs.{rises_from, IsRising}
 use Rattle.heco_fields.specs.Formats.{within}
-use Rattle.heco_fields.specs.Runs.{FitAlong}
+use Rattle.heco_nums.specs.Runs.{FitAlong}
 use Rattle.heco_fields.proofs.Bools.{both_true, and_true}
 use Rattle.heco_fields.proofs.Laws.{Law, same_law}
 use Rattle.heco_fields.proofs.FieldLaws.{number_law, wide16}

@@ -2,8 +2,8 @@
 use Rattle.std.specs.Prelude.{◌≡◌, ◌≢◌, ◌≤◌, ℕ, ◌-◌, ◌==◌, List, [], ◌++◌, length, Result, Ok, Err, if◌then◌else◌}
 use Rattle.heco_fields.specs.Formats.{Format, BreaksAt, header, header_text, ◌>>=◌}
 use Rattle.heco_fields.specs.Readings.{Reading, reading, judged}
-use Rattle.heco_key_files.specs.declared.error.FileErr.{FileErr}
-use Rattle.heco_key_files.specs.declared.error.FileErr.TheVariants.{Malformed, WrongPreset, Count, Memory}
+use Rattle.heco_lists.specs.declared.error.FileErr.{FileErr}
+use Rattle.heco_lists.specs.declared.error.FileErr.TheVariants.{Malformed, WrongPreset, Count, Memory}
 
 -- ---- the answer, as a function of the bytes
 

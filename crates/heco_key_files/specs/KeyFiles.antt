@@ -1,11 +1,11 @@
 -- The files of the secret key and of the evaluation key, behind their headers.
-use Rattle.std.specs.Prelude.{◌≡◌, ℕ, ◌+◌, ◌-◌, ◌==◌, ◌<◌, ◌≤◌, Bool, List, ◌++◌, length, All, map, if◌then◌else◌, ℤ, codes}
+use Rattle.std.specs.Prelude.{◌≡◌, ℕ, ◌+◌, ◌-◌, ◌==◌, Bool, List, ◌++◌, length, All, map, if◌then◌else◌, ℤ, codes}
 use Rattle.std.specs.List.{flat_map}
 use Rattle.std.specs.Int.{w8, w16, to_be_bytes}
 use Rattle.heco_nums.specs.Needs.{IsRising}
 use Rattle.heco_fields.specs.Formats.{Format, Value, within, many, header_text, ◌>>=◌}
-use Rattle.heco_fields.specs.Runs.{stays}
-use Rattle.heco_scheme.specs.Bounds.{AreWords}
+use Rattle.heco_nums.specs.Runs.{stays}
+use Rattle.heco_nums.specs.MaterialBounds.{AreWords}
 use Rattle.heco_scheme.specs.Keys.{key_part}
 use Rattle.heco_lists.specs.ListFormat.{words, bytes_text, words_text}
 use Rattle.heco_keys.specs.Amounts.{AreAmounts}
@@ -90,8 +90,8 @@ eval_text id e = header_text (codes "HEVA") id ++ lists_text e
 abbrev pub IsPair : ℕ → List ℕ × List ℕ → Type 0
 IsPair n x = AreWords n x.0 × AreWords n x.1
 
-abbrev pub IsSwitchKey : ℕ → List (List ℕ × List ℕ) → Type 0
-IsSwitchKey n rows = (length rows ≡ 29) × All (IsPair n) rows
+abbrev pub IsSwitchList : ℕ → List (List ℕ × List ℕ) → Type 0
+IsSwitchList n rows = (length rows ≡ 29) × All (IsPair n) rows
 
 -- turns by 1 to slots - 1, which rise
 pub record AreTurns (slots : ℕ) (rs : List ℕ) : Type 0 where
@@ -104,4 +104,4 @@ pub record AreEvalLists (n slots : ℕ) (e : EvalLists) : Type 0 where
   pub p0 : AreWords n e.p0
   pub p1 : AreWords n e.p1
   pub count : length e.switch ≡ bit e.relin + length e.turns
-  pub switch : All (IsSwitchKey n) e.switch
+  pub switch : All (IsSwitchList n) e.switch

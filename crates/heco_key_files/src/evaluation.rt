@@ -1,14 +1,14 @@
 ghost use Rattle.std.specs.Prelude.{◌≡◌, ◌≢◌, ℕ, [], IfOk, IfErr, codes};
 ghost use Rattle.heco_fields.specs.Formats.{BreaksAt};
-ghost use Rattle.heco_key_files.specs.declared.error.FileErr.TheVariants.{Malformed, WrongPreset};
+ghost use Rattle.heco_lists.specs.declared.error.FileErr.TheVariants.{Malformed, WrongPreset};
 ghost use Rattle.heco_key_files.specs.Judging.{Answers, HasCause, NamesNoOther, NamesPreset, body_as, file_as, whole};
 ghost use Rattle.heco_key_files.specs.KeyFiles.{AreEvalLists, EvalLists, eval_text, evaluation, lists_of};
 
-use crate::error::FileErr;
-use crate::header::{behind_header, place};
+use crate::header::{behind_header, broken_at};
 use crate::read_key::eval_at;
 use heco_fields::Fault;
 use heco_keys::Eval;
+use heco_lists::FileErr;
 use heco_nums::Preset;
 use std::alloc::Global;
 
@@ -20,11 +20,11 @@ fn body(alloc: Global, p: &Preset, bytes: &[u8], rest: &[u8]) -> Result<Eval, Fi
     match eval_at(alloc, p, rest) {
         Ok((key, beyond)) => {
             if beyond.len() > 0 {
-                return Err(place(bytes, beyond.len() as u64));
+                return Err(broken_at(bytes, beyond.len() as u64));
             }
             Ok(key)
         }
-        Err(Fault::Broken { left }) => Err(place(bytes, left)),
+        Err(Fault::Broken { left }) => Err(broken_at(bytes, left)),
         Err(Fault::Memory) => Err(FileErr::Memory),
     }
 }

@@ -1,12 +1,12 @@
 ghost use Rattle.std.specs.Prelude.{◌≡◌, ◌-◌, length};
 ghost use Rattle.heco_key_files.specs.Judging.{Answers, header_as};
 
-use crate::error::FileErr;
 use heco_fields::{Fault, header_at};
+use heco_lists::FileErr;
 use heco_nums::Preset;
 
 /// The refusal of a field that begins with so many bytes left.
-pub fn place(bytes: &[u8], left: u64) -> FileErr
+pub fn broken_at(bytes: &[u8], left: u64) -> FileErr
     ensures { result ≡ FileErr.Malformed (length bytes.now - left) }
 {
     FileErr::Malformed {
@@ -26,7 +26,7 @@ pub fn behind_header<'a>(p: &Preset, magic: &[u8], bytes: &'a [u8]) -> Result<&'
             }
             Ok(rest)
         }
-        Err(Fault::Broken { left }) => Err(place(bytes, left)),
+        Err(Fault::Broken { left }) => Err(broken_at(bytes, left)),
         Err(Fault::Memory) => Err(FileErr::Memory),
     }
 }

@@ -1,7 +1,6 @@
 //! The files of the secret key and of the evaluation key.
 #![tactic(auto)]
 
-mod error;
 mod evaluation;
 mod header;
 mod laws;
@@ -10,9 +9,8 @@ mod read_switch;
 mod secret;
 mod writing;
 
-pub use error::FileErr;
 pub use evaluation::read_eval;
-pub use header::{behind_header, place};
+pub use header::{behind_header, broken_at};
 pub use laws::made_keys_have_a_file;
 pub use read_switch::poly_at;
 pub use secret::{read_secret, write_secret};

@@ -2,7 +2,7 @@ ghost use Rattle.std.specs.Prelude.{◌≡◌, ◌<◌, All, IfOk, length, map};
 ghost use Rattle.heco_nums.specs.Needs.{IsRising};
 ghost use Rattle.heco_fields.specs.Formats.{many};
 ghost use Rattle.heco_fields.specs.Readings.{Gives, reading};
-ghost use Rattle.heco_fields.specs.Runs.{stays};
+ghost use Rattle.heco_nums.specs.Runs.{stays};
 ghost use Rattle.heco_scheme.specs.Keys.{AreRows};
 ghost use Rattle.heco_keys.specs.Amounts.{AreAmounts};
 ghost use Rattle.heco_key_files.specs.KeyFiles.{evaluation, lists_of, switch_key, turns};

@@ -1,8 +1,8 @@
 ghost use Rattle.std.specs.Prelude.{◌≡◌, ◌<◌, ◌≤◌, ◌^◌, length, map, IfOk};
 ghost use Rattle.heco_fields.specs.Formats.{many};
-ghost use Rattle.heco_fields.specs.Runs.{stays};
+ghost use Rattle.heco_nums.specs.Runs.{stays};
 ghost use Rattle.heco_fields.specs.Readings.{Gives, reading};
-ghost use Rattle.heco_scheme.specs.Bounds.{AreWords};
+ghost use Rattle.heco_nums.specs.MaterialBounds.{AreWords};
 ghost use Rattle.heco_lists.specs.ListFormat.{words};
 ghost use Rattle.heco_key_files.specs.KeyFiles.{turn, latest, pair, switch_key};
 

@@ -1,16 +1,15 @@
 ghost use Rattle.std.specs.Prelude.{◌≡◌, ◌≢◌, ℕ, ℤ, [], List as Seq, IfOk, IfErr, codes};
 ghost use Rattle.heco_fields.specs.Formats.{BreaksAt};
-ghost use Rattle.heco_scheme.specs.Bounds.{IsSparse};
+ghost use Rattle.heco_nums.specs.MaterialBounds.{IsSparse};
 ghost use Rattle.heco_lists.specs.ListFormat.{sparse};
-ghost use Rattle.heco_key_files.specs.declared.error.FileErr.TheVariants.{Malformed, WrongPreset};
+ghost use Rattle.heco_lists.specs.declared.error.FileErr.TheVariants.{Malformed, WrongPreset};
 ghost use Rattle.heco_key_files.specs.Judging.{Answers, HasCause, NamesNoOther, NamesPreset, body_as, file_as, whole};
 ghost use Rattle.heco_key_files.specs.KeyFiles.{secret_text};
 
-use crate::error::FileErr;
-use crate::header::{behind_header, place};
+use crate::header::{behind_header, broken_at};
 use heco_fields::{Fault, put_header};
 use heco_keys::Secret;
-use heco_lists::{put_bytes, sparse_at};
+use heco_lists::{FileErr, put_bytes, sparse_at};
 use heco_nums::{Bytes, List, Memory, Preset};
 use std::alloc::Global;
 
@@ -21,11 +20,11 @@ fn body(alloc: Global, p: &Preset, bytes: &[u8], rest: &[u8]) -> Result<List<i8>
     match sparse_at(alloc, p.n, p.h, rest) {
         Ok((places, beyond)) => {
             if beyond.len() > 0 {
-                return Err(place(bytes, beyond.len() as u64));
+                return Err(broken_at(bytes, beyond.len() as u64));
             }
             Ok(places)
         }
-        Err(Fault::Broken { left }) => Err(place(bytes, left)),
+        Err(Fault::Broken { left }) => Err(broken_at(bytes, left)),
         Err(Fault::Memory) => Err(FileErr::Memory),
     }
 }

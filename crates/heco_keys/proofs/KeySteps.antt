@@ -1,7 +1,7 @@
 -- The steps by which keys are made, as congruences.
-use Prim.Native.Nat.{ℕ, ◌+◌, ◌*◌, ◌%◌, ◌^◌, ◌<◌}
+use Prim.Native.Nat.{ℕ, ◌+◌, ◌*◌, ◌%◌, ◌^◌}
 use native.Mathlib.Omega.{arith}
-use mathlib.Core.Path.{◌≡◌, refl, sym, ap, ◌∙◌}
+use mathlib.Core.Path.{◌≡◌, sym, ap, ◌∙◌}
 use mathlib.Core.List.{List}
 use lib.IntN.{ℤ, pos, ◌*ℤ◌}
 use Rattle.std.proofs.Common.{subst, add-one}
@@ -14,7 +14,7 @@ use Rattle.heco_ring.proofs.Remainders.{cong_refl}
 use Rattle.heco_ring.proofs.RingLaws.{times_comm}
 use Rattle.heco_ring.proofs.Reduced.{same_wholes, reduced_same}
 use Rattle.heco_ring.proofs.Congruence.{same_refl, same_trans, same_plus, same_times, same_negate, same_scale, same_turn_list}
-use Rattle.heco_scheme.specs.Keys.{key_part, switch_part, square, turned}
+use Rattle.heco_scheme.specs.Keys.{key_part, switch_part, square, turned_secret}
 
 abbrev q : ℕ
 q = 2 ^ 58
@@ -61,6 +61,6 @@ unfolding square
 squared_is n s S X s_is x_is = x_is ∙ reduced_same q n (times n s (wholes S)) (times n s s) (omega arith) (same_times q n s s (wholes S) s (same_refl q n s) (same_of n S s s_is))
 
 -- s turned
-pub turned_is : (n r g : ℕ) (s : List ℤ) (S X : List ℕ) → S ≡ reduced q n s → g ≡ 3 ^ r % (2 * n) → X ≡ reduced q n (turn n (wholes S) g) → X ≡ reduced q n (turned n s r)
-unfolding turned
+pub turned_is : (n r g : ℕ) (s : List ℤ) (S X : List ℕ) → S ≡ reduced q n s → g ≡ 3 ^ r % (2 * n) → X ≡ reduced q n (turn n (wholes S) g) → X ≡ reduced q n (turned_secret n s r)
+unfolding turned_secret
 turned_is n r g s S X s_is g_is x_is = x_is ∙ reduced_same q n (turn n (wholes S) g) (turn n s g) (omega arith) (same_turn_list q n g (wholes S) s (same_of n S s s_is)) ∙ ap (λ m. reduced q n (turn n s m)) g_is

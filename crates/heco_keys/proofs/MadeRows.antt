@@ -9,13 +9,13 @@ use Rattle.std.proofs.lemmas.List.FromFn.{get_or-map-range_with_len}
 use Rattle.heco_ring.specs.Remainders.{reduced}
 use Rattle.heco_ring.specs.Ring.{wholes, plus, negate, scale, times}
 use Rattle.heco_ring.proofs.Reduced.{length-reduced, reduced-lt}
-use Rattle.heco_scheme.specs.Bounds.{AreErrors, AreWords}
-use Rattle.heco_scheme.specs.Keys.{key_part, switch_part, row, square, turned, AreRows, IsPublicKey, IsSwitchKey}
-use Rattle.heco_draw.specs.Words.{listed}
-use Rattle.heco_draw.proofs.Drawn.{length-listed}
+use Rattle.heco_nums.specs.MaterialBounds.{AreErrors, AreWords}
+use Rattle.heco_scheme.specs.Keys.{key_part, switch_part, row, square, turned_secret, AreRows, IsPublicKey, IsSwitchKey}
+use Rattle.heco_nums.specs.Listed.{listed}
+use Rattle.heco_nums.proofs.ListedLaws.{length-listed}
 use Rattle.heco_material.specs.declared.words.SwitchRow.{SwitchRow}
 use Rattle.heco_material.specs.declared.words.SwitchWords.{SwitchWords}
-use Rattle.heco_material.specs.KeyLists.{IsRow, IsSwitch}
+use Rattle.heco_material.specs.KeyLists.{IsSwitchRow, IsSwitch}
 use Rattle.heco_keys.specs.declared.switch_key.SwitchKey.{SwitchKey}
 use Rattle.heco_keys.specs.Made.{all_rows, no_row, no_rows, pair_of, purpose, source_of, switch_rows}
 
@@ -35,8 +35,8 @@ pub row_is : (n i : ℕ) (s t : List ℤ) (rows : List SwitchRow) → i < 29 →
 unfolding switch_rows listed
 row_is n i s t rows h = get_or-map-range_with_len (λ i. pair_of n s t i (get_or rows i no_row)) 0 29 i i ([], []) h (omega arith)
 
-pub words_row : (n b i : ℕ) (w : SwitchWords) → IsSwitch n b w → i < 29 → IsRow n b (get_or w.rows i no_row)
-words_row n b i w h l = All-get_or (IsRow n b) w.rows i no_row (omega (arith, h.count)) h.rows
+pub words_row : (n b i : ℕ) (w : SwitchWords) → IsSwitch n b w → i < 29 → IsSwitchRow n b (get_or w.rows i no_row)
+words_row n b i w h l = All-get_or (IsSwitchRow n b) w.rows i no_row (omega (arith, h.count)) h.rows
 
 pub switch_part_words : (n i : ℕ) (s t e : List ℤ) (a : List ℕ) → AreWords n (switch_part n s t i a e)
 unfolding switch_part
@@ -100,6 +100,6 @@ turn_purpose true turns j =
     rw (ne_eqb (1 + j) 0 ne, back) refl
 turn_purpose false turns j = let none : 0 + j ≡ j = omega arith in rw none refl
 
-pub turn_source : (n : ℕ) (s : List ℤ) (relin : Bool) (turns : List ℕ) (j : ℕ) → source_of n s (purpose relin turns ((if relin then 1 else 0) + j)) ≡ turned n s (get_or turns j 0)
+pub turn_source : (n : ℕ) (s : List ℤ) (relin : Bool) (turns : List ℕ) (j : ℕ) → source_of n s (purpose relin turns ((if relin then 1 else 0) + j)) ≡ turned_secret n s (get_or turns j 0)
 unfolding source_of
 turn_source n s relin turns j = rw (turn_purpose relin turns j) refl

@@ -1,15 +1,15 @@
 -- The keys that are made from key material.
-use Rattle.std.specs.Prelude.{ℕ, ◌-◌, Bool, List, [], ◌∷◌, Option, Some, None, ◌==◌, if◌then◌else◌, ℤ, length}
-use Rattle.heco_draw.specs.Words.{listed}
+use Rattle.std.specs.Prelude.{ℕ, ◌-◌, Bool, List, [], Option, Some, None, ◌==◌, if◌then◌else◌, ℤ, length}
+use Rattle.heco_nums.specs.Listed.{listed}
 use lib.ListN.{get_or}
-use Rattle.heco_scheme.specs.Keys.{switch_part, square, turned}
+use Rattle.heco_scheme.specs.Keys.{switch_part, square, turned_secret}
 use Rattle.heco_material.specs.declared.words.SwitchRow.{SwitchRow}
 use Rattle.heco_material.specs.declared.words.SwitchWords.{SwitchWords}
 
 -- what a switch key switches from: the square of the secret to relinearise, or the turned secret
 unfoldable pub source_of : ℕ → List ℤ → Option ℕ → List ℤ
 source_of n s None = square n s
-source_of n s (Some r) = turned n s r
+source_of n s (Some r) = turned_secret n s r
 
 -- what switch key j is for: relinearisation first, and then the turns in order
 unfoldable pub purpose : Bool → List ℕ → ℕ → Option ℕ

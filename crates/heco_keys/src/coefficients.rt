@@ -1,5 +1,5 @@
 ghost use Rattle.std.specs.Prelude.{◌≡◌, IfOk};
-ghost use Rattle.heco_scheme.specs.Bounds.{AreWords};
+ghost use Rattle.heco_nums.specs.MaterialBounds.{AreWords};
 
 use heco_nums::{Memory, Preset};
 use heco_poly::Poly;

@@ -2,7 +2,7 @@ ghost use Rattle.std.specs.Prelude.{◌≡◌, ◌^◌, ◌<◌, ℕ, ℤ, pos, 
 ghost use Rattle.heco_ring.specs.Ring.{scale};
 ghost use Rattle.heco_ring.specs.Remainders.{reduced};
 ghost use Rattle.heco_scheme.specs.Keys.{switch_part};
-ghost use Rattle.heco_material.specs.KeyLists.{IsRow, IsSwitch};
+ghost use Rattle.heco_material.specs.KeyLists.{IsSwitchRow, IsSwitch};
 ghost use Rattle.heco_keys.specs.Made.{source_of, switch_rows};
 
 use crate::coefficients::poly_of;
@@ -24,7 +24,7 @@ fn pair(
     source: &Poly,
 ) -> Result<(Poly, Poly), Memory>
     requires s { length s.now ≡ p.now.n }
-    requires row { IsRow p.now.n p.now.b row.now }
+    requires row { IsSwitchRow p.now.n p.now.b row.now }
     requires source { length source.now ≡ p.now.n }
     ensures first { IfOk result (λ x. (t : Seq ℤ) (i : ℕ) → source.now ≡ reduced (2 ^ 58) p.now.n (scale p.now.n (pos (4 ^ i)) t) → x.0 ≡ switch_part p.now.n s.now t i row.now.a row.now.e) }
     ensures second { IfOk result (λ x. x.1 ≡ row.now.a) }

@@ -60,10 +60,7 @@ pub fn make(alloc: Global, k: &KeyWords) -> Result<(Secret, Eval), Memory>
     let p1 = poly_of(alloc, p, k.a.as_slice())?;
     let p0 = masked(alloc, p, k.s.as_slice(), &p1, k.e.as_slice())?;
     let switch = make_switches(alloc, k)?;
-    let needs = KeyNeeds {
-        relin: k.needs.relin,
-        turns: List::from_slice(alloc, k.needs.turns.as_slice())?,
-    };
+    let needs = k.needs.copy(alloc)?;
     let secret = Secret::of(p, List::from_slice(alloc, k.s.as_slice())?)?;
     Ok((secret, Eval::of(p, needs, (p0, p1), switch)))
 }

@@ -1,5 +1,5 @@
 ghost use Rattle.std.specs.Prelude.{◌≡◌, ◌<◌, IfOk, IsOk, slice_get};
-ghost use Rattle.heco_scheme.specs.Bounds.{IsSparse};
+ghost use Rattle.heco_nums.specs.MaterialBounds.{IsSparse};
 
 use heco_nums::{List, Memory, Preset};
 

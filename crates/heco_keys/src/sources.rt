@@ -1,6 +1,6 @@
 ghost use Rattle.std.specs.Prelude.{◌≡◌, ◌*◌, ◌%◌, ◌^◌, ◌<◌, ◌≤◌, IfOk, length};
 ghost use Rattle.heco_ring.specs.Remainders.{reduced};
-ghost use Rattle.heco_scheme.specs.Keys.{square, turned};
+ghost use Rattle.heco_scheme.specs.Keys.{square, turned_secret};
 ghost use Rattle.heco_keys.specs.Made.{source_of};
 
 use heco_nums::{Memory, Preset};
@@ -44,7 +44,7 @@ fn square_into(p: &Preset, s: &[i8], small: &mut Poly, out: &mut Poly)
 
 fn rotated(alloc: Global, p: &Preset, s: &[i8], r: u16) -> Result<Poly, Memory>
     requires { length s.now ≡ p.now.n }
-    ensures value { IfOk result (λ x. x ≡ reduced (2 ^ 58) p.now.n (turned p.now.n s.now r)) }
+    ensures value { IfOk result (λ x. x ≡ reduced (2 ^ 58) p.now.n (turned_secret p.now.n s.now r)) }
     ensures long { IfOk result (λ x. length x ≡ p.now.n) }
 {
     let mut small = Poly::zero(alloc, p)?;
@@ -57,7 +57,7 @@ fn rotate_into(p: &Preset, s: &[i8], r: u16, small: &mut Poly, out: &mut Poly)
     requires s { length s.now ≡ p.now.n }
     requires small { length small.old ≡ p.now.n }
     requires out { length out.old ≡ p.now.n }
-    ensures value { out.new ≡ reduced (2 ^ 58) p.now.n (turned p.now.n s.now r) }
+    ensures value { out.new ≡ reduced (2 ^ 58) p.now.n (turned_secret p.now.n s.now r) }
     ensures long { length out.new ≡ p.now.n }
 {
     Poly::small_into(s, small);

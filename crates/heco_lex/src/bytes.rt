@@ -1,6 +1,5 @@
 ghost use Rattle.std.specs.Prelude.{◌≡◌, Some, None};
 ghost use Rattle.heco_lex.specs.Kinds.{is_blank, is_digit, word_kind, sign_of_one, sign_of_two};
-ghost use Rattle.heco_nums.specs.Words.{is_letter, is_word_byte};
 
 use crate::token::TokenKind;
 
@@ -10,22 +9,10 @@ pub fn is_blank(c: u8) -> bool
     c == b' ' || c == b'\t' || c == b'\r' || c == b'\n'
 }
 
-pub fn is_letter(c: u8) -> bool
-    ensures { result ≡ is_letter c }
-{
-    c >= b'a' && c <= b'z' || c >= b'A' && c <= b'Z' || c == b'_'
-}
-
 pub fn is_digit(c: u8) -> bool
     ensures { result ≡ is_digit c }
 {
     c >= b'0' && c <= b'9'
-}
-
-pub fn is_word_byte(c: u8) -> bool
-    ensures { result ≡ is_word_byte c }
-{
-    is_letter(c) || is_digit(c)
 }
 
 /// The reserved word that the text is, or else a word.

@@ -5,10 +5,9 @@ ghost use Rattle.heco_nums.specs.Words.{is_word_byte};
 ghost use Rattle.heco_lex.specs.Pieces.{IsPiece, IsRun, sign_front};
 ghost use Rattle.heco_lex.specs.Splits.{begins_comment, line_rest};
 
-use crate::bytes::{
-    is_blank, is_digit, is_letter, is_word_byte, sign_of_one, sign_of_two, word_kind,
-};
+use crate::bytes::{is_blank, is_digit, sign_of_one, sign_of_two, word_kind};
 use crate::token::TokenKind;
+use heco_nums::{is_letter, is_word_byte};
 
 /// What stands at the front of a text.
 pub enum Piece {

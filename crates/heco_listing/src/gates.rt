@@ -1,9 +1,9 @@
 ghost use Rattle.std.specs.Prelude.{◌≡◌, ◌<◌, ◌^◌, ◌++◌, OnOk, decimal, codes, slice_index};
 ghost use Rattle.heco_listing.specs.Listings.{gate_words, gate_line, gate_lines};
 
-use crate::pieces::{put_number, put_two};
+use crate::pieces::put_two;
 use heco_circuit::Gate;
-use heco_nums::{Bytes, Memory};
+use heco_nums::{Bytes, Memory, put_number};
 
 fn put_one(out: &mut Bytes, name: &[u8], a: u32) -> Result<(), Memory>
     ensures { OnOk result (out.new ≡ out.old ++ (name.now ++ decimal a)) }

@@ -1,16 +1,8 @@
-ghost use Rattle.std.specs.Prelude.{◌≡◌, ◌≤◌, ◌++◌, OnOk, decimal, codes};
+ghost use Rattle.std.specs.Prelude.{◌≡◌, ◌≤◌, ◌++◌, OnOk, codes};
 ghost use Rattle.heco_nums.specs.Presets.{preset_name};
 ghost use Rattle.heco_listing.specs.Listings.{number_word, port, two, preset_line};
 
-use heco_nums::{Bytes, Memory};
-use itoa::Buffer;
-
-pub fn put_number(out: &mut Bytes, n: u128) -> Result<(), Memory>
-    ensures { OnOk result (out.new ≡ out.old ++ decimal n) }
-{
-    let mut buffer = Buffer::new();
-    out.extend_from_slice(buffer.format(n).as_bytes())
-}
+use heco_nums::{Bytes, Memory, put_number};
 
 /// A space and a number.
 pub fn put_number_word(out: &mut Bytes, n: u32) -> Result<(), Memory>

@@ -2,9 +2,9 @@ ghost use Rattle.std.specs.Prelude.{◌≡◌, ◌++◌, OnOk};
 ghost use Rattle.std.specs.List.{flat_map};
 ghost use Rattle.heco_listing.specs.Listings.{input_line, cell_words, output_line};
 
-use crate::pieces::{put_number, put_port};
+use crate::pieces::put_port;
 use heco_circuit::{Cell, Output};
-use heco_nums::{Bytes, Memory, Shape};
+use heco_nums::{Bytes, Memory, Shape, put_number};
 
 fn put_input(out: &mut Bytes, input: &Shape) -> Result<(), Memory>
     ensures { OnOk result (out.new ≡ out.old ++ input_line input.now) }

@@ -2,8 +2,8 @@ ghost use Rattle.std.specs.Prelude.{◌≡◌, ◌++◌, ◌<◌, ◌+◌, ◌^�
 ghost use Rattle.std.specs.List.{flat_map};
 ghost use Rattle.heco_listing.specs.Listings.{number_word, vector_line, vector_lines};
 
-use crate::pieces::{put_number, put_number_word};
-use heco_nums::{Bytes, List, Memory};
+use crate::pieces::put_number_word;
+use heco_nums::{Bytes, List, Memory, put_number};
 
 fn put_entries(out: &mut Bytes, vector: &[u32]) -> Result<(), Memory>
     ensures { OnOk result (out.new ≡ out.old ++ flat_map number_word vector.now) }

@@ -9,13 +9,13 @@ use Rattle.std.proofs.lemmas.Int.{fits_signed_from_abs}
 use Rattle.std.proofs.lemmas.List.Elements.{All-nil, All-cons, All-head, All-tail}
 use Rattle.std.proofs.lemmas.List.Sums.{sum_by-cons}
 use Rattle.heco_fields.specs.Formats.{many}
-use Rattle.heco_fields.specs.Runs.{FitAlong, stays}
+use Rattle.heco_nums.specs.Runs.{FitAlong, stays}
 use Rattle.heco_fields.proofs.Bools.{both_true, and_true}
 use Rattle.heco_fields.proofs.Laws.{Law, same_law}
 use Rattle.heco_fields.proofs.FieldLaws.{signed_law, number_law, wide64}
 use Rattle.heco_fields.proofs.ManyLaws.{many_law, each_law}
-use Rattle.heco_scheme.specs.Bounds.{IsSparse, AreErrors, AreWords, is_used}
-use Rattle.heco_lists.specs.ListFormat.{is_place, place, counted, sparse, word, words, error, errors, byte_text, bytes_text, words_text}
+use Rattle.heco_nums.specs.MaterialBounds.{IsSparse, AreErrors, AreWords, is_used}
+use Rattle.heco_lists.specs.ListFormat.{is_place, secret_place, counted, sparse, word, words, error, errors, byte_text, bytes_text, words_text}
 
 -- ---- words
 
@@ -57,9 +57,9 @@ Place h used z = IsTrue (is_place h used z)
 place_small : (h used : ℕ) (z : ℤ) → Place h used z → unsigned_abs z ≤ 1
 place_small h used z p = leb-true _ _ (both_true (leb (unsigned_abs z) 1) (eqb (unsigned_abs z) 0 || ltb used h) p).0
 
-place_law : (h used : ℕ) → Law (place h used) byte_text (Place h used)
+place_law : (h used : ℕ) → Law (secret_place h used) byte_text (Place h used)
 place_law h used =
-    same_law (place h used) byte_text byte_text (λ z. FitsSigned w8 z × IsTrue (is_place h used z)) (Place h used) (signed_law (is_place h used))
+    same_law (secret_place h used) byte_text byte_text (λ z. FitsSigned w8 z × IsTrue (is_place h used z)) (Place h used) (signed_law (is_place h used))
     (λ z _. refl) (λ z h. h.1) (λ z p. let s = place_small h used z p in (fits_signed_from_abs w8 z (omega arith), p))
 
 count_cons : (z : ℤ) (zs : List ℤ) → count_by is_used (z ∷ zs) ≡ cond (eqb (unsigned_abs z) 0) 0 1 + count_by is_used zs
@@ -110,7 +110,7 @@ are_places h used (z ∷ zs) small few = (
 pub sparse_law : (n h : ℕ) → Law (sparse n h) bytes_text (IsSparse n h)
 unfolding sparse bytes_text
 sparse_law n h =
-    same_law (many (place h) counted n 0) (flat_map byte_text) (flat_map byte_text) (λ zs. (length zs ≡ n) × FitAlong (Place h) counted 0 zs) (IsSparse n h) (many_law (place h) counted byte_text (Place h) (place_law h) n 0)
+    same_law (many (secret_place h) counted n 0) (flat_map byte_text) (flat_map byte_text) (λ zs. (length zs ≡ n) × FitAlong (Place h) counted 0 zs) (IsSparse n h) (many_law (secret_place h) counted byte_text (Place h) (place_law h) n 0)
     (λ zs _. refl)
     (λ zs f. let p = places_are h 0 zs (omega arith) f.1 in record { long = f.0; small = p.0; few = omega (arith, p.1) })
     (λ zs s. (s.long, are_places h 0 zs s.small (omega (arith, s.few))))

@@ -4,21 +4,21 @@ use Rattle.std.specs.List.{flat_map}
 use Rattle.std.specs.Int.{w8, w64, to_be_bytes, cast_unsigned}
 use Rattle.std.specs.Int.RustNames.{unsigned_abs}
 use Rattle.heco_fields.specs.Formats.{Format, signed_byte, many, within}
-use Rattle.heco_fields.specs.Runs.{stays}
+use Rattle.heco_nums.specs.Runs.{stays}
 
 -- -1, 0 or 1, and 0 where h of the places before are not 0
 abbrev pub is_place : ℕ → ℕ → ℤ → Bool
 is_place h used z = nat_le (unsigned_abs z) 1 && (unsigned_abs z == 0 || nat_lt used h)
 
-abbrev pub place : ℕ → ℕ → Format ℤ
-place h used = signed_byte (is_place h used)
+abbrev pub secret_place : ℕ → ℕ → Format ℤ
+secret_place h used = signed_byte (is_place h used)
 
 -- one more place is not 0
 abbrev pub counted : ℕ → ℤ → ℕ
 counted used z = if unsigned_abs z == 0 then used else used + 1
 
 unfoldable pub sparse : ℕ → ℕ → Format (List ℤ)
-sparse n h = many (place h) counted n 0
+sparse n h = many (secret_place h) counted n 0
 
 abbrev pub word : ℕ → Format ℕ
 word s = within w64 0 (2 ^ 58 - 1)

@@ -1,7 +1,7 @@
 ghost use Rattle.std.specs.Prelude.{◌≡◌, ◌≤◌, ◌<◌, ◌+◌, ◌^◌, true};
 ghost use Rattle.std.specs.Int.RustNames.{unsigned_abs};
 ghost use Rattle.heco_fields.specs.Readings.{Gives, reading};
-ghost use Rattle.heco_lists.specs.ListFormat.{place, counted, error, sparse, words, errors};
+ghost use Rattle.heco_lists.specs.ListFormat.{secret_place, counted, error, sparse, words, errors};
 
 use heco_fields::{Fault, broken, i8_at, u64_within};
 use heco_nums::List;
@@ -9,7 +9,7 @@ use std::alloc::Global;
 
 #[tactic(auto, unfolding(heco_fields::specs::Readings::reading))]
 fn place_at(h: u32, used: u32, bytes: &[u8]) -> Result<(i8, &[u8]), Fault>
-    ensures { Gives (λ x. (x.0, x.1.now)) result (reading (place h used) bytes.now) }
+    ensures { Gives (λ x. (x.0, x.1.now)) result (reading (secret_place h used) bytes.now) }
 {
     let (place, rest) = i8_at(bytes)?;
     let size = place.unsigned_abs();

@@ -45,7 +45,7 @@ impl Marks {
     pub fn count(&self) -> u32
         ensures { result ≡ length self.now.numbers }
     {
-        let _ = self.leaves;
+        let _valid = self.leaves;
         self.counts[1]
     }
 

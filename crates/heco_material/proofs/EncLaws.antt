@@ -7,7 +7,7 @@ use Rattle.std.proofs.lemmas.List.Elements.{All-weaker}
 use Rattle.heco_fields.specs.Formats.{Value, ◌>>=◌ as ◌then◌}
 use Rattle.heco_fields.proofs.Laws.{Law, then_law, last_law, same_law}
 use Rattle.heco_fields.proofs.ManyLaws.{each_law}
-use Rattle.heco_scheme.specs.Bounds.{IsSparse, AreErrors}
+use Rattle.heco_nums.specs.MaterialBounds.{IsSparse, AreErrors}
 use Rattle.heco_material.specs.declared.words.EncRow.{EncRow}
 use Rattle.heco_material.specs.KeyLists.{IsEncRow, IsEncMaterial}
 use Rattle.heco_lists.specs.ListFormat.{sparse, errors, bytes_text}

@@ -5,23 +5,23 @@ use Rattle.std.specs.List.{flat_map, All}
 use Rattle.std.proofs.lemmas.List.{length-append}
 use Rattle.std.proofs.lemmas.List.Elements.{All-weaker}
 use Rattle.heco_fields.specs.Formats.{Value, many, ◌>>=◌ as ◌then◌}
-use Rattle.heco_fields.specs.Runs.{stays}
+use Rattle.heco_nums.specs.Runs.{stays}
 use Rattle.heco_fields.proofs.Laws.{Law, then_law, last_law, same_law}
 use Rattle.heco_fields.proofs.ManyLaws.{each_law}
-use Rattle.heco_scheme.specs.Bounds.{IsSparse, AreErrors, AreWords}
+use Rattle.heco_nums.specs.MaterialBounds.{IsSparse, AreErrors, AreWords}
 use Rattle.heco_material.specs.declared.words.SwitchRow.{SwitchRow}
 use Rattle.heco_material.specs.declared.words.SwitchWords.{SwitchWords}
-use Rattle.heco_material.specs.KeyLists.{KeyLists, key_lists, IsRow, IsSwitch, IsKeyMaterial}
+use Rattle.heco_material.specs.KeyLists.{KeyLists, key_lists, IsSwitchRow, IsSwitch, IsKeyMaterial}
 use Rattle.heco_material.specs.KeyFormat.{switch_row, row, switch_words, switch, switches, keys, row_text, switch_text, switches_text, keys_text, keys_length}
 use Rattle.heco_lists.specs.ListFormat.{sparse, words, errors, bytes_text, words_text}
 use Rattle.heco_lists.proofs.ListLaws.{sparse_law, words_law, errors_law}
 use Rattle.heco_lists.proofs.Lengths.{length_each, length_bytes, length_words}
 
-row_law : (n b : ℕ) → b < 128 → (s : ℕ) → Law (row n b s) row_text (IsRow n b)
+row_law : (n b : ℕ) → b < 128 → (s : ℕ) → Law (row n b s) row_text (IsSwitchRow n b)
 unfolding row
 row_law n b small s =
     let RowOf : List ℕ → SwitchRow → Type 0 = λ a r. AreErrors n b r.e × (switch_row a r.e ≡ r) in
-    same_law (row n b s) row_text row_text (λ (r : SwitchRow). AreWords n r.a × RowOf r.a r) (IsRow n b)
+    same_law (row n b s) row_text row_text (λ (r : SwitchRow). AreWords n r.a × RowOf r.a r) (IsSwitchRow n b)
     (then_law (words n) (λ a. errors n b then λ e. Value (switch_row a e)) words_text (λ (r : SwitchRow). bytes_text r.e) (AreWords n) RowOf (λ r. r.a) (words_law n)
     (λ a _. last_law (errors n b) (switch_row a) (λ r. r.e) bytes_text (AreErrors n b) (errors_law n b small) (λ e. refl))
     (λ a r h. ap (λ (t : SwitchRow). t.a) (sym h.1)))
@@ -30,8 +30,8 @@ row_law n b small s =
 switch_law : (n b : ℕ) → b < 128 → (s : ℕ) → Law (switch n b s) switch_text (IsSwitch n b)
 unfolding switch switch_text
 switch_law n b small s =
-    same_law (switch n b s) switch_text switch_text (λ (w : SwitchWords). ((length w.rows ≡ 29) × All (IsRow n b) w.rows) × (switch_words w.rows ≡ w)) (IsSwitch n b)
-    (last_law (many (row n b) stays 29 0) switch_words (λ w. w.rows) (flat_map row_text) (λ rows. (length rows ≡ 29) × All (IsRow n b) rows) (each_law (row n b) row_text (IsRow n b) (row_law n b small) 29 0) (λ rows. refl))
+    same_law (switch n b s) switch_text switch_text (λ (w : SwitchWords). ((length w.rows ≡ 29) × All (IsSwitchRow n b) w.rows) × (switch_words w.rows ≡ w)) (IsSwitch n b)
+    (last_law (many (row n b) stays 29 0) switch_words (λ w. w.rows) (flat_map row_text) (λ rows. (length rows ≡ 29) × All (IsSwitchRow n b) rows) (each_law (row n b) row_text (IsSwitchRow n b) (row_law n b small) 29 0) (λ rows. refl))
     (λ w _. refl) (λ w h. record { count = h.0.0; rows = h.0.1 }) (λ w h. ((h.count, h.rows), refl))
 
 abbrev AreSwitches : ℕ → ℕ → ℕ → List SwitchWords → Type 0
@@ -67,12 +67,12 @@ keys_law n h b count small =
 
 -- ---- lengths
 
-length_row : (n b : ℕ) (r : SwitchRow) → IsRow n b r → length (row_text r) ≡ 9 * n
+length_row : (n b : ℕ) (r : SwitchRow) → IsSwitchRow n b r → length (row_text r) ≡ 9 * n
 length_row n b r h = length-append (words_text r.a) (bytes_text r.e) ∙ omega (arith, length_words r.a, length_bytes r.e, h.words.long, h.errors.long)
 
 length_switch : (n b : ℕ) (w : SwitchWords) → IsSwitch n b w → length (switch_text w) ≡ 261 * n
 unfolding switch_text
-length_switch n b w h = length_each row_text (9 * n) w.rows (All-weaker (IsRow n b) (λ r. length (row_text r) ≡ 9 * n) (length_row n b) w.rows h.rows) ∙ ap (λ m. 9 * n * m) h.count ∙ omega arith
+length_switch n b w h = length_each row_text (9 * n) w.rows (All-weaker (IsSwitchRow n b) (λ r. length (row_text r) ≡ 9 * n) (length_row n b) w.rows h.rows) ∙ ap (λ m. 9 * n * m) h.count ∙ omega arith
 
 length_switches : (n b : ℕ) (ws : List SwitchWords) → All (IsSwitch n b) ws → length (switches_text ws) ≡ 261 * n * length ws
 unfolding switches_text

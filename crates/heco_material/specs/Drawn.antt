@@ -1,7 +1,8 @@
 -- Material drawn from a seed, part by part in the order of the files. Keys take stream 1, encryptions stream 2.
 use Rattle.std.specs.Prelude.{ℕ, ◌+◌, ◌*◌, List}
 use Rattle.rand_chacha.specs.ChaCha.{ChaCha}
-use Rattle.heco_draw.specs.Words.{ahead, listed, sparse, long_words, errors}
+use Rattle.heco_draw.specs.Words.{ahead, sparse, long_words, errors}
+use Rattle.heco_nums.specs.Listed.{listed}
 use Rattle.heco_material.specs.declared.words.SwitchRow.{SwitchRow}
 use Rattle.heco_material.specs.declared.words.SwitchWords.{SwitchWords}
 use Rattle.heco_material.specs.declared.words.EncRow.{EncRow}

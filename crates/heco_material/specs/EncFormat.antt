@@ -4,7 +4,7 @@ use Rattle.std.specs.List.{flat_map}
 use Rattle.heco_fields.specs.Formats.{Format, Value, many, ◌>>=◌}
 use Rattle.heco_material.specs.declared.words.EncRow.{EncRow}
 use Rattle.heco_lists.specs.ListFormat.{sparse, errors, bytes_text}
-use Rattle.heco_fields.specs.Runs.{stays}
+use Rattle.heco_nums.specs.Runs.{stays}
 
 abbrev pub enc_row : List ℤ → List ℤ → List ℤ → EncRow
 enc_row u e1 e2 = record { u = u; e1 = e1; e2 = e2 }

@@ -3,7 +3,7 @@
 use Rattle.std.specs.Prelude.{ℕ, ◌+◌, ◌*◌, List, ◌++◌, ℤ}
 use Rattle.std.specs.List.{flat_map}
 use Rattle.heco_fields.specs.Formats.{Format, Value, many, ◌>>=◌}
-use Rattle.heco_fields.specs.Runs.{stays}
+use Rattle.heco_nums.specs.Runs.{stays}
 use Rattle.heco_lists.specs.ListFormat.{sparse, words, errors, bytes_text, words_text}
 use Rattle.heco_material.specs.declared.words.SwitchRow.{SwitchRow}
 use Rattle.heco_material.specs.declared.words.SwitchWords.{SwitchWords}

@@ -1,6 +1,6 @@
 -- Key and encryption material as lists of numbers, and its bounds.
 use Rattle.std.specs.Prelude.{◌≡◌, ℕ, ◌+◌, List, length, All, ℤ, if◌then◌else◌}
-use Rattle.heco_scheme.specs.Bounds.{IsSparse, AreErrors, AreWords}
+use Rattle.heco_nums.specs.MaterialBounds.{IsSparse, AreErrors, AreWords}
 use Rattle.heco_material.specs.declared.words.SwitchRow.{SwitchRow}
 use Rattle.heco_material.specs.declared.words.SwitchWords.{SwitchWords}
 use Rattle.heco_material.specs.declared.words.EncRow.{EncRow}
@@ -25,13 +25,13 @@ lists_of k = key_lists k.s k.a k.e k.switch
 abbrev pub key_count : KeyNeeds → ℕ
 key_count needs = (if needs.relin then 1 else 0) + length needs.turns
 
-pub record IsRow (n b : ℕ) (r : SwitchRow) : Type 0 where
+pub record IsSwitchRow (n b : ℕ) (r : SwitchRow) : Type 0 where
   pub words : AreWords n r.a
   pub errors : AreErrors n b r.e
 
 pub record IsSwitch (n b : ℕ) (w : SwitchWords) : Type 0 where
   pub count : length w.rows ≡ 29
-  pub rows : All (IsRow n b) w.rows
+  pub rows : All (IsSwitchRow n b) w.rows
 
 -- key material within bounds, for so many switch keys
 pub record IsKeyMaterial (n h b number : ℕ) (k : KeyLists) : Type 0 where

@@ -1,11 +1,10 @@
 ghost use Rattle.std.specs.Prelude.{◌≡◌, ◌+◌, ◌*◌, ◌<◌, ◌≤◌, ◌^◌, All, IfOk, OnOk, length};
 ghost use Rattle.heco_draw.specs.Words.{ahead, start};
-ghost use Rattle.heco_material.specs.KeyLists.{lists_of, key_lists, key_count, IsRow, IsSwitch, IsKeyMaterial, IsEncRow, IsEncMaterial};
+ghost use Rattle.heco_material.specs.KeyLists.{lists_of, key_lists, key_count, IsSwitchRow, IsSwitch, IsKeyMaterial, IsEncRow, IsEncMaterial};
 ghost use Rattle.heco_material.specs.Drawn.{drawn_row, drawn_switch, drawn_switches, drawn_keys, drawn_encryption, drawn_encryptions};
 
 use crate::file_length::key_count;
 use crate::read_rows::Lists;
-use crate::reading::copy_needs;
 use crate::words::{EncRow, EncWords, KeyWords, SwitchRow, SwitchWords};
 use heco_draw::{draw_errors, draw_sparse, draw_words, start};
 use heco_nums::{KeyNeeds, List, Memory, Preset};
@@ -16,7 +15,7 @@ use std::alloc::Global;
 fn draw_row(alloc: Global, rng: &mut ChaCha20Rng, p: &Preset) -> Result<SwitchRow, Memory>
     requires { rng.old.word_pos + 3 * p.now.n < 2 ^ 68 }
     ensures row { IfOk result (λ r. r ≡ drawn_row rng.old p.now.n p.now.b) }
-    ensures within { IfOk result (IsRow p.now.n p.now.b) }
+    ensures within { IfOk result (IsSwitchRow p.now.n p.now.b) }
     ensures rng { OnOk result (rng.new ≡ ahead rng.old (3 * p.now.n)) }
 {
     let a = draw_words(alloc, rng, p.n)?;
@@ -83,7 +82,7 @@ pub fn draw_keys(alloc: Global, p: &Preset, needs: &KeyNeeds, seed: u64) -> Resu
     let count = key_count(needs);
     let mut rng = start(seed, 1);
     let Lists { s, a, e, switch } = draw_lists(alloc, &mut rng, p, count)?;
-    let needs = copy_needs(alloc, needs)?;
+    let needs = needs.copy(alloc)?;
     Ok(KeyWords {
         preset: *p,
         needs,

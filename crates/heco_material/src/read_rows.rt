@@ -1,6 +1,6 @@
 ghost use Rattle.std.specs.Prelude.{◌≡◌, ◌<◌, ◌^◌};
 ghost use Rattle.heco_fields.specs.Formats.{many};
-ghost use Rattle.heco_fields.specs.Runs.{stays};
+ghost use Rattle.heco_nums.specs.Runs.{stays};
 ghost use Rattle.heco_fields.specs.Readings.{Gives, reading};
 ghost use Rattle.heco_material.specs.KeyLists.{key_lists};
 ghost use Rattle.heco_material.specs.KeyFormat.{row, switch, switches, keys};

@@ -17,7 +17,7 @@ use heco_nums::{KeyNeeds, List, Memory, Preset};
 use std::alloc::Global;
 
 // Where a field begins that has so many bytes left.
-fn place(bytes: &[u8], left: u64) -> MatErr
+fn broken_at(bytes: &[u8], left: u64) -> MatErr
     ensures { result ≡ MatErr.Bounds (length bytes.now - left) }
 {
     MatErr::Bounds {
@@ -31,11 +31,11 @@ fn key_fields(alloc: Global, p: &Preset, count: usize, bytes: &[u8]) -> Result<L
     match keys_at(alloc, p, count, bytes) {
         Ok((lists, rest)) => {
             if rest.len() > 0 {
-                return Err(place(bytes, rest.len() as u64));
+                return Err(broken_at(bytes, rest.len() as u64));
             }
             Ok(lists)
         }
-        Err(Fault::Broken { left }) => Err(place(bytes, left)),
+        Err(Fault::Broken { left }) => Err(broken_at(bytes, left)),
         Err(Fault::Memory) => Err(MatErr::Memory),
     }
 }
@@ -47,16 +47,6 @@ fn read_lists(alloc: Global, p: &Preset, count: usize, bytes: &[u8]) -> Result<L
     let n = u128::from(p.n);
     judge_length(bytes, 10 * n + 261 * n * (count as u128))?;
     key_fields(alloc, p, count, bytes)
-}
-
-/// A copy of the needs.
-pub fn copy_needs(alloc: Global, needs: &KeyNeeds) -> Result<KeyNeeds, Memory>
-    ensures { IfOk result (λ copy. (copy.relin ≡ needs.now.relin) × (copy.turns ≡ needs.now.turns)) }
-{
-    Ok(KeyNeeds {
-        relin: needs.relin,
-        turns: List::from_slice(alloc, needs.turns.as_slice())?,
-    })
 }
 
 /// The key material that the file holds, for the switch keys of the needs. `Length` comes exactly where the length is
@@ -84,7 +74,7 @@ fn read_words(alloc: Global, p: &Preset, needs: &KeyNeeds, bytes: &[u8]) -> Resu
     ensures exact { Answers lists_of result (read_as (keys p.now.n p.now.h p.now.b (key_count needs.now)) (keys_length p.now.n (key_count needs.now)) bytes.now) }
 {
     let Lists { s, a, e, switch } = read_lists(alloc, p, key_count(needs), bytes)?;
-    let needs = copy_needs(alloc, needs)?;
+    let needs = needs.copy(alloc)?;
     Ok(KeyWords {
         preset: *p,
         needs,
@@ -101,11 +91,11 @@ fn enc_fields(alloc: Global, p: &Preset, count: u32, bytes: &[u8]) -> Result<Lis
     match encryptions_at(alloc, p, count, bytes) {
         Ok((rows, rest)) => {
             if rest.len() > 0 {
-                return Err(place(bytes, rest.len() as u64));
+                return Err(broken_at(bytes, rest.len() as u64));
             }
             Ok(rows)
         }
-        Err(Fault::Broken { left }) => Err(place(bytes, left)),
+        Err(Fault::Broken { left }) => Err(broken_at(bytes, left)),
         Err(Fault::Memory) => Err(MatErr::Memory),
     }
 }

@@ -2,7 +2,7 @@
 use Rattle.std.specs.Prelude.{ℕ, ◌+◌, ◌-◌, ◌*◌, ◌%◌, List, [], ◌∷◌, ◌++◌, map, length, take, drop, replicate, slice_index}
 use Rattle.std.specs.List.{slice_index_or}
 use Rattle.heco_nums.specs.Presets.{modulus_of, slots_of}
-use Rattle.heco_fields.specs.Runs.{along}
+use Rattle.heco_nums.specs.Runs.{along}
 use Rattle.heco_circuit.specs.declared.gate.Cell.{Cell}
 use Rattle.heco_circuit.specs.declared.gate.Cell.TheVariants.{Number, Slot}
 use Rattle.heco_circuit.specs.declared.gate.Gate.{Gate}

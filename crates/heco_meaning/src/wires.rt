@@ -1,5 +1,5 @@
 ghost use Rattle.std.specs.Prelude.{◌≡◌, ◌≤◌, map, IfOk};
-ghost use Rattle.heco_fields.specs.Runs.{along};
+ghost use Rattle.heco_nums.specs.Runs.{along};
 ghost use Rattle.heco_meaning.specs.Meanings.{wire_at, wire_of, with_wire, filled};
 
 use crate::slots;

@@ -1,7 +1,7 @@
 -- The messages of wires, gate by gate.
 use Rattle.std.proofs.Common.{◌≡◌, ◌∙◌, ℕ, suc, ◌+◌, ◌<◌, List, [], ◌∷◌, ◌++◌, length, get_or, drop, sym, ap, add-one, drop-cons}
 use Rattle.heco_nums.specs.declared.preset.Preset.{Preset}
-use Rattle.heco_fields.specs.Runs.{along}
+use Rattle.heco_nums.specs.Runs.{along}
 use Rattle.heco_circuit.specs.declared.gate.Gate.{Gate}
 use Rattle.heco_run_laws.specs.Messages.{message_by, with_message}
 

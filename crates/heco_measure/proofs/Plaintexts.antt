@@ -29,7 +29,7 @@ use Rattle.heco_run.proofs.Fits.{GateFits, gate_fits, gate_has_vector, below_mod
 use Rattle.heco_run_laws.specs.Messages.{message_by}
 use Rattle.heco_run_laws.proofs.Measured.{encodings}
 use Rattle.heco_scheme.specs.Encryption.{decrypted}
-use Rattle.heco_measure.specs.Plaintexts.{IsPlaintext, IsGateBehind}
+use Rattle.heco_measure.specs.inside.Plaintexts.{IsPlaintext, IsGateBehind}
 
 -- ---- plaintexts
 

@@ -31,7 +31,7 @@ use Rattle.heco_ring.proofs.Wrapping.{at-wholes}
 use Rattle.heco_scheme.specs.Noise.{q}
 use Rattle.heco_scheme.specs.Rounding.{centred}
 use Rattle.heco_slots.specs.Messages.{sum, difference, opposite, multiple, raised, product, turned}
-use Rattle.heco_measure.specs.Plaintexts.{IsPlaintext}
+use Rattle.heco_measure.specs.inside.Plaintexts.{IsPlaintext}
 
 -- ---- one number
 

@@ -34,7 +34,7 @@ use Rattle.heco_run_laws.specs.Messages.{message_at}
 use Rattle.heco_run_laws.specs.Results.{wire_count}
 use Rattle.heco_run_laws.specs.Runs.{Ciphertext, SwitchKeys, ciphertext_at, run_of}
 use Rattle.heco_measure.specs.Measuring.{measured_of, measured_wire, measured_wires}
-use Rattle.heco_measure.specs.Stores.{HasFirst, AreEntries, ciphertext_in}
+use Rattle.heco_measure.specs.inside.Stores.{HasFirst, AreEntries, ciphertext_in}
 use Rattle.heco_measure.specs.declared.measuring.Measured.{Measured}
 use Rattle.heco_measure.proofs.Plaintexts.{earlier}
 

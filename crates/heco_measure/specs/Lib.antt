@@ -1,4 +1,3 @@
-pub mod Plaintexts
-pub mod Stores
 pub mod Measuring
 pub mod Lines
+pub mod inside

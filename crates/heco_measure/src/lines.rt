@@ -1,19 +1,11 @@
 //! The text of what is measured.
 
-ghost use Rattle.std.specs.Prelude.{◌≡◌, ◌++◌, IfOk, OnOk, decimal, codes};
+ghost use Rattle.std.specs.Prelude.{◌≡◌, ◌++◌, IfOk, OnOk, codes};
 ghost use Rattle.heco_measure.specs.Lines.{measured_line, measured_text};
 
 use crate::measuring::Measured;
-use heco_nums::{Bytes, Memory};
-use itoa::Buffer;
+use heco_nums::{Bytes, Memory, put_number};
 use std::alloc::Global;
-
-fn put_number(out: &mut Bytes, n: u128) -> Result<(), Memory>
-    ensures { OnOk result (out.new ≡ out.old ++ decimal n) }
-{
-    let mut buffer = Buffer::new();
-    out.extend_from_slice(buffer.format(n).as_bytes())
-}
 
 fn put_line(out: &mut Bytes, measured: &Measured) -> Result<(), Memory>
     ensures { OnOk result (out.new ≡ out.old ++ measured_line measured.now) }

@@ -6,8 +6,8 @@ ghost use Rattle.heco_run.specs.Shapes.{AreTwoParts};
 ghost use Rattle.heco_run_laws.specs.Runs.{Ciphertext};
 ghost use Rattle.heco_scheme.specs.Noise.{noise};
 ghost use Rattle.heco_measure.specs.Measuring.{measured_of, measured_wires};
-ghost use Rattle.heco_measure.specs.Plaintexts.{IsPlaintext};
-ghost use Rattle.heco_measure.specs.Stores.{AreEntries, ciphertext_in};
+ghost use Rattle.heco_measure.specs.inside.Plaintexts.{IsPlaintext};
+ghost use Rattle.heco_measure.specs.inside.Stores.{AreEntries, ciphertext_in};
 
 use crate::noise::noise;
 use crate::wire_messages::wire_messages;

@@ -9,7 +9,7 @@ ghost use Rattle.heco_circuit.specs.Plans.{is_vector};
 ghost use Rattle.heco_run_laws.specs.Messages.{message_by, message_at};
 ghost use Rattle.heco_slots.specs.Messages as message;
 ghost use Rattle.heco_slots.specs.Rows.{encoded_two};
-ghost use Rattle.heco_measure.specs.Plaintexts.{IsPlaintext, IsGateBehind};
+ghost use Rattle.heco_measure.specs.inside.Plaintexts.{IsPlaintext, IsGateBehind};
 
 use crate::making::{copied, of_words};
 use crate::settling::settle;

@@ -8,7 +8,7 @@ ghost use Rattle.heco_ring.specs.Remainders.{reduced};
 ghost use Rattle.heco_ring.specs.Ring.{wholes, times};
 ghost use Rattle.heco_scheme.specs.Ciphertexts.{IsCiphertext};
 ghost use Rattle.heco_scheme.specs.Noise.{noise, phase_of};
-ghost use Rattle.heco_measure.specs.Plaintexts.{IsPlaintext};
+ghost use Rattle.heco_measure.specs.inside.Plaintexts.{IsPlaintext};
 
 use heco_bfv::Ct;
 use heco_keys::Secret;

@@ -5,7 +5,7 @@ ghost use Rattle.heco_run.specs.Shapes.{AreTwoParts, IsShaped};
 ghost use Rattle.heco_run_laws.specs.Measured.{measured_messages};
 ghost use Rattle.heco_run_laws.specs.Results.{wire_count};
 ghost use Rattle.heco_scheme.specs.Encryption.{decrypted};
-ghost use Rattle.heco_measure.specs.Plaintexts.{IsPlaintext};
+ghost use Rattle.heco_measure.specs.inside.Plaintexts.{IsPlaintext};
 
 use crate::making::of_words;
 use crate::message_gates::gate_message;

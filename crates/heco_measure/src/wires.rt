@@ -6,7 +6,7 @@ ghost use Rattle.heco_run.specs.Refusals.{opening_refusal};
 ghost use Rattle.heco_run.specs.Shapes.{AreTwoParts, IsShaped};
 ghost use Rattle.heco_run_laws.specs.Results.{wire_count};
 ghost use Rattle.heco_run_laws.specs.Runs.{run_of};
-ghost use Rattle.heco_measure.specs.Stores.{HasFirst};
+ghost use Rattle.heco_measure.specs.inside.Stores.{HasFirst};
 
 use crate::making::copied;
 use heco_bfv::{Ct, Gates};

@@ -1,3 +1,6 @@
 pub mod Amounts
-pub mod PresetFacts
+pub mod ListedLaws
+pub mod OnePreset
 pub mod Powers
+pub mod PresetCases
+pub mod PresetFacts

@@ -1,10 +1,9 @@
 -- What every preset has: the facts of its row on which the scheme rests.
-use Prim.Native.Nat.{ℕ, zero, suc, ◌+◌, ◌*◌, ◌-◌, ◌/◌, ◌%◌, ◌<◌, ◌≤◌, ◌^◌}
+use Prim.Native.Nat.{ℕ, ◌+◌, ◌*◌, ◌-◌, ◌/◌, ◌%◌, ◌<◌, ◌≤◌, ◌^◌}
 use native.Mathlib.Omega.{arith}
 use mathlib.Core.Path.{◌≡◌, refl, ap, ◌∙◌}
-use mathlib.Core.Logic.{inl, inr}
-use Rattle.std.specs.Prelude.{◌⊎◌}
-use Rattle.heco_nums.specs.Presets.{degree_of, slots_of, modulus_of, weight_of, error_of, root_of, inverse_of}
+use Rattle.heco_nums.proofs.PresetCases.{by_preset}
+use Rattle.heco_nums.specs.Presets.{degree_of, slots_of, modulus_of, hamming_weight_of, error_of, root_of, inverse_of}
 use Rattle.heco_nums.specs.declared.preset.Preset.{Preset}
 
 -- the numbers are those of this row
@@ -17,25 +16,16 @@ record Is (p : Preset) (n slots t h b zeta ninv : ℕ) : Type 0 where
   zeta_is : p.zeta ≡ zeta
   ninv_is : p.ninv ≡ ninv
 
-at_row : (p : Preset) (i : ℕ) → p.id ≡ i → Is p (degree_of i) (slots_of i) (modulus_of i) (weight_of i) (error_of i) (root_of i) (inverse_of i)
+at_row : (p : Preset) (i : ℕ) → p.id ≡ i → Is p (degree_of i) (slots_of i) (modulus_of i) (hamming_weight_of i) (error_of i) (root_of i) (inverse_of i)
 at_row p i e = record {
   n_is = p.row.2 ∙ ap degree_of e;
   slots_is = p.row.3 ∙ ap slots_of e;
   t_is = p.row.4 ∙ ap modulus_of e;
-  h_is = p.row.5 ∙ ap weight_of e;
+  h_is = p.row.5 ∙ ap hamming_weight_of e;
   b_is = p.row.6 ∙ ap error_of e;
   zeta_is = p.row.7 ∙ ap root_of e;
   ninv_is = p.row.8 ∙ ap inverse_of e;
 }
-
-pub one_of_five : (id : ℕ) → 1 ≤ id → id ≤ 5 → (id ≡ 1) ⊎ ((id ≡ 2) ⊎ ((id ≡ 3) ⊎ ((id ≡ 4) ⊎ (id ≡ 5))))
-one_of_five zero low high = absurd (omega arith)
-one_of_five (suc zero) low high = inl refl
-one_of_five (suc (suc zero)) low high = inr (inl refl)
-one_of_five (suc (suc (suc zero))) low high = inr (inr (inl refl))
-one_of_five (suc (suc (suc (suc zero)))) low high = inr (inr (inr (inl refl)))
-one_of_five (suc (suc (suc (suc (suc zero))))) low high = inr (inr (inr (inr refl)))
-one_of_five (suc (suc (suc (suc (suc (suc n)))))) low high = absurd (omega arith)
 
 -- what the ring, the noise and the slots need
 pub record Facts (p : Preset) : Type 0 where
@@ -76,16 +66,14 @@ facts_at p n slots t h b zeta ninv depth i n_pos n_small slots_half n_power slot
 }
 
 pub facts : (p : Preset) → Facts p
-facts p = elim (one_of_five p.id p.row.0 p.row.1) [
-  | inl e ↦ facts_at p 16 8 257 4 2 136 241 2 (at_row p 1 e) (omega arith) (omega arith) refl refl refl (omega arith) (omega arith) refl (omega arith) (omega arith) refl refl refl (λ e. omega arith)
-  | inr rest ↦ elim rest [
-    | inl e ↦ facts_at p 64 32 257 8 4 9 253 4 (at_row p 2 e) (omega arith) (omega arith) refl refl refl (omega arith) (omega arith) refl (omega arith) (omega arith) refl refl refl (λ e. omega arith)
-    | inr rest ↦ elim rest [
-      | inl e ↦ facts_at p 128 64 257 8 4 3 255 5 (at_row p 3 e) (omega arith) (omega arith) refl refl refl (omega arith) (omega arith) refl (omega arith) (omega arith) refl refl refl (λ e. omega arith)
-      | inr rest ↦ elim rest [
-        | inl e ↦ facts_at p 64 32 65537 8 4 13987 64513 4 (at_row p 4 e) (omega arith) (omega arith) refl refl refl (omega arith) (omega arith) refl (omega arith) (omega arith) refl refl refl (λ e. omega arith)
-        | inr e ↦ facts_at p 1024 512 65537 4 1 61869 65473 8 (at_row p 5 e) (omega arith) (omega arith) refl refl refl (omega arith) (omega arith) refl (omega arith) (omega arith) refl refl refl (λ e. omega arith)
-      ]
-    ]
-  ]
-]
+facts p =
+    by_preset (λ id. p.id ≡ id → Facts p)
+    (λ e. facts_at p 16 8 257 4 2 136 241 2 (at_row p 1 e) (omega arith) (omega arith) refl refl refl (omega arith) (omega arith) refl (omega arith) (omega arith) refl refl refl (λ full. omega arith))
+    (λ e. facts_at p 64 32 257 8 4 9 253 4 (at_row p 2 e) (omega arith) (omega arith) refl refl refl (omega arith) (omega arith) refl (omega arith) (omega arith) refl refl refl (λ full. omega arith))
+    (λ e. facts_at p 128 64 257 8 4 3 255 5 (at_row p 3 e) (omega arith) (omega arith) refl refl refl (omega arith) (omega arith) refl (omega arith) (omega arith) refl refl refl (λ full. omega arith))
+    (λ e. facts_at p 64 32 65537 8 4 13987 64513 4 (at_row p 4 e) (omega arith) (omega arith) refl refl refl (omega arith) (omega arith) refl (omega arith) (omega arith) refl refl refl (λ full. omega arith))
+    (λ e. facts_at p 1024 512 65537 4 1 61869 65473 8 (at_row p 5 e) (omega arith) (omega arith) refl refl refl (omega arith) (omega arith) refl (omega arith) (omega arith) refl refl refl (λ full. omega arith))
+    p.id p.row.0 p.row.1 refl
+
+pub some_slots : (p : Preset) → 0 < p.slots
+some_slots p = let F = facts p in omega (arith, F.n_pos, F.slots_half)

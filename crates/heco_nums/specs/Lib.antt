@@ -1,5 +1,9 @@
 pub mod Arithmetic
+pub mod Listed
+pub mod MaterialBounds
 pub mod Needs
+pub mod PresetRows
 pub mod Presets
+pub mod Runs
 pub mod Words
 pub mod formers

@@ -3,6 +3,9 @@ ghost use Rattle.heco_nums.specs.Arithmetic.{centre_t, centre_q, scaled};
 
 use crate::Preset;
 
+/// The low 58 bits of a word: `x & Q_MASK` is x modulo q.
+pub const Q_MASK: u64 = (1 << 58) - 1;
+
 /// The sum modulo t.
 pub fn add_t(p: &Preset, a: u32, b: u32) -> u32
     requires a { a < p.now.t }

@@ -8,12 +8,11 @@ use Rattle.heco_lex.specs.declared.token.TokenKind.TheVariants as k
 use Rattle.heco_syntax.specs.Kept.{Kept, kept_ident, kept_num, kept_place, kept_expr, kept_some, kept_stmt_step, kept_stmt, kept_param, kept_def, kept_source}
 use Rattle.heco_syntax.specs.Parts.{place_of, ident_of, comma, def_sign, def_sign_by, set_op, set_op_of, direction, first_of, first_by}
 use Rattle.heco_syntax.specs.Productions.{Spells}
-use Rattle.heco_syntax.specs.Sources.{IsSource, IsBlock, block_or, no_block}
+use Rattle.heco_syntax.specs.Sources.{IsSource, IsBlock, block_or}
 use Rattle.heco_syntax.specs.Sources as g
 use Rattle.heco_syntax.specs.declared.first.First.{First}
 use Rattle.heco_syntax.specs.declared.first.First.TheVariants as first
 use Rattle.heco_syntax.specs.declared.lexeme.Lexeme.{Lexeme}
-use Rattle.heco_syntax.specs.declared.tree.Def.{Def}
 use Rattle.heco_syntax.specs.declared.tree.Expr.{Expr}
 use Rattle.heco_syntax.specs.declared.tree.Ident.{Ident}
 use Rattle.heco_syntax.specs.declared.tree.Num.{Num}

@@ -1,5 +1,5 @@
 -- The words into which `pair` writes differ.
-use Rattle.std.proofs.Common.{List, [], ◌∷◌}
+use Rattle.std.proofs.Common.{[], ◌∷◌}
 use Rattle.heco_exec.proofs.WrittenFiles.{all_differ}
 use Rattle.heco_pair.specs.Laws.{DistinctAreApart}
 

@@ -1,11 +1,10 @@
 -- What `pair` has written of its circuit, both keys and its inputs are files of one chain.
-use Rattle.std.proofs.Common.{◌≡◌, ℕ, List, [], ◌∷◌}
+use Rattle.std.proofs.Common.{[], ◌∷◌}
 use Rattle.heco_products.proofs.Products.{fit_count}
-use Rattle.heco_products.specs.PresetRows.{preset_of}
+use Rattle.heco_nums.specs.PresetRows.{preset_of}
 use Rattle.heco_jobs.specs.Words.{name_of}
 use Rattle.heco_tasks.proofs.MeasureLaws.{encrypted_of_the_chain}
 use Rattle.heco_exec.proofs.ChainFiles.{given_runs}
-use Rattle.heco_pair.specs.Headline.{IsPaired}
 use Rattle.heco_pair.specs.Laws.{PairedFilesAreOfOneChain}
 
 pub paired_of_one_chain : PairedFilesAreOfOneChain

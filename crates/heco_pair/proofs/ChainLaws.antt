@@ -17,7 +17,7 @@ use Rattle.heco_nums.specs.declared.preset.Preset.{Preset}
 use Rattle.heco_nums.specs.declared.shape.Values.{Values}
 use Rattle.heco_products.specs.Encrypting.{encrypted_pairs}
 use Rattle.heco_products.specs.KeyProducts.{circuit_key}
-use Rattle.heco_products.specs.PresetRows.{preset_of}
+use Rattle.heco_nums.specs.PresetRows.{preset_of}
 use Rattle.heco_run_laws.specs.Runs.{Ciphertext}
 use Rattle.heco_syntax.specs.declared.tree.Source.{Source}
 use Rattle.heco_tasks.specs.Running.{Leads}

@@ -12,7 +12,7 @@ use Rattle.heco_peep.specs.Rules.{Handed}
 use Rattle.heco_products.specs.Decrypting.{row_text}
 use Rattle.heco_products.specs.Encrypting.{encrypted_pairs, pairs_file}
 use Rattle.heco_products.specs.KeyProducts.{circuit_key, evaluation_file, secret_file}
-use Rattle.heco_products.specs.PresetRows.{preset_of}
+use Rattle.heco_nums.specs.PresetRows.{preset_of}
 use Rattle.heco_products.specs.Results.{keys_of, results_file}
 use Rattle.heco_run_laws.specs.Results.{results_of}
 use Rattle.heco_slots.specs.Rows.{first_row, second_row}

@@ -1,5 +1,5 @@
 -- pair SRC IN IN2 KMAT EMAT CIR SEC EVA CTS RES: its plan and its job.
-use Rattle.std.specs.Prelude.{ℕ, true, List, [], ◌∷◌}
+use Rattle.std.specs.Prelude.{true, List, [], ◌∷◌}
 use Rattle.heco_circuit.specs.Plans.{Plan as Circuit}
 use Rattle.heco_good.specs.Accepted.{IsAccepted}
 use Rattle.heco_good.specs.Compiled.{IsPassedOf}

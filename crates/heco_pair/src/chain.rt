@@ -1,7 +1,7 @@
 ghost use Rattle.std.specs.Prelude.{◌≡◌, IfOk, OnOk};
 ghost use Rattle.heco_headline.specs.Pair.{CanRunBoth};
 ghost use Rattle.heco_material.specs.KeyLists.{lists_of};
-ghost use Rattle.heco_products.specs.PresetRows.{preset_of};
+ghost use Rattle.heco_nums.specs.PresetRows.{preset_of};
 ghost use Rattle.heco_jobs.specs.Agents.{picking};
 ghost use Rattle.heco_exec.specs.Chain.{AreKeysFor};
 ghost use Rattle.heco_tasks.specs.Running.{Leads};

@@ -6,25 +6,28 @@ use Rattle.std.proofs.lemmas.List.{length-map, get_or_default}
 use Rattle.heco_nums.specs.Presets.{modulus_of, slots_of}
 use Rattle.heco_nums.specs.declared.preset.Preset.{Preset}
 use Rattle.heco_noise.specs.Rows.{IsQuiet}
-use Rattle.heco_fields.specs.Runs.{along, all_along}
+use Rattle.heco_nums.specs.Runs.{along, all_along}
+use Rattle.heco_nums.proofs.PresetCases.{modulus_pos}
 use Rattle.heco_fields.proofs.Bools.{both_true, and_true}
 use Rattle.heco_circuit.specs.declared.gate.Gate.{Gate}
 use Rattle.heco_circuit.specs.Bounds.{with_bound, fresh_bounds, weights_of, is_below}
 use Rattle.heco_circuit.specs.Plans.{Plan, input_parts, is_input, push}
 use Rattle.heco_circuit.specs.Validity.{with_gate, is_gate}
-use Rattle.heco_rewrites.specs.Wires.{Wires, behind, over, OperandsStand, Keeps}
+use Rattle.heco_circuit.proofs.Lengths.{length-input_parts}
+use Rattle.heco_rewrites.specs.Wires.{Wires, behind, over, OperandsStand}
 use Rattle.heco_rewrites.specs.Renaming.{IsRenamed}
 use Rattle.heco_rewrites.proofs.Renamed.{renamed}
 use Rattle.heco_rewrites.proofs.Along.{along_parts, along_bounds, along_long, gate_below}
+use Rattle.heco_rewrites.proofs.Dropping.{keeps_itself}
 use Rattle.heco_peep.specs.Rules.{Rule, IsWindow, is_shown, in_range}
 use Rattle.heco_peep.specs.Looks.{window, Progress, look_behind, unchanged}
 use Rattle.heco_peep.proofs.Makers.{gate_ranged}
 use Rattle.heco_peep.proofs.Look.{Ground, Formed, ready}
 use Rattle.heco_peep.proofs.Step.{Going, passes}
-use Rattle.heco_peep.proofs.Whole.{base, length-input_parts, start_going}
+use Rattle.heco_peep.proofs.Whole.{base, start_going}
 use Rattle.heco_peep.proofs.Rows.{base_even, no_rows}
 use Rattle.heco_peep.proofs.Quiet.{bounds_long, bounds_kept}
-use Rattle.heco_peep.proofs.OnePass.{Valid, full_blank, modulus_some}
+use Rattle.heco_peep.proofs.OnePass.{Valid, full_blank}
 use Rattle.heco_peep.proofs.Asking.{ranged_below}
 
 pub along_append : {S A : Type 0} (next : S → A → S) (s : S) (xs ys : List A) → along next s (xs ++ ys) ≡ along next (along next s xs) ys
@@ -50,9 +53,6 @@ pub record IsBefore (p : Preset) (c : Plan) (s : Progress) (g : Gate) : Type 0 w
   pub constant : is_below (modulus_of p.id) (over (slice_index s.names) g) ≡ true
   pub few : length c.inputs + length s.gates < 2 ^ 26
   pub quiet : All IsQuiet (along (with_bound p.id (weights_of p.id c.vectors)) (fresh_bounds p.id c.inputs) s.gates)
-
-keeps_itself : (vs : List (List ℕ)) → Keeps vs vs
-keeps_itself vs = record { few = omega arith; each = λ v l. refl }
 
 quiet_below : (e f : ℕ) → e ≤ f → IsQuiet f → IsQuiet e
 quiet_below e f l q = omega (arith, l, q)
@@ -116,7 +116,7 @@ before p c rule state pre post g q v split = record {
 
     ground : Ground p.id vs start
     ground = subst (λ id. Ground id vs (base id c (no_rows c.inputs))) (sym q)
-        (record { some = modulus_some c.preset; vectors = v.vectors_are; even = base_even c.preset c (no_rows c.inputs) (length-map c.inputs (λ s. [])); full = full_blank c })
+        (record { some = modulus_pos c.preset; vectors = v.vectors_are; even = base_even c.preset c (no_rows c.inputs) (length-map c.inputs (λ s. [])); full = full_blank c })
 
     formed : Formed p.id vs start (pre ++ g ∷ post)
     formed = subst (Formed p.id vs start) split (subst (λ id. Formed id vs (base id c (no_rows c.inputs)) c.gates) (sym q) v.gates)

@@ -6,7 +6,7 @@ use Rattle.std.proofs.lemmas.List.{append_assoc, length-map, length_push}
 use Rattle.std.proofs.Math.Seq.{set-append_seam}
 use Rattle.heco_nums.specs.Presets.{slots_of}
 use Rattle.heco_nums.specs.declared.preset.Preset.{Preset}
-use Rattle.heco_fields.specs.Runs.{along, all_along}
+use Rattle.heco_nums.specs.Runs.{along, all_along}
 use Rattle.heco_fields.proofs.Bools.{both_true}
 use Rattle.heco_circuit.specs.declared.gate.Gate.{Gate}
 use Rattle.heco_circuit.specs.declared.gate.Output.{Output}
@@ -19,11 +19,11 @@ use Rattle.heco_rewrites.specs.Dropping.{needed_gates}
 use Rattle.heco_peep.specs.declared.changing.Changed.{Changed}
 use Rattle.heco_peep.specs.declared.window.Swap.{Swap}
 use Rattle.heco_peep.specs.declared.window.Swap.TheVariants as swap
-use Rattle.heco_peep.specs.Changing.{progress}
+use Rattle.heco_peep.specs.inside.Changing.{progress}
 use Rattle.heco_peep.specs.Looks.{Progress, fits, put, taken, answered, look_behind, looked, unchanged}
 use Rattle.heco_peep.specs.Passed.{shows, renamed, without_dead, tried, is_kept, after, moved, passed, passed_on, IsPassed}
 use Rattle.heco_peep.specs.NoWorse.{HasFewBytes}
-use Rattle.heco_peep.specs.Ready.{IsReady, HasFewWires}
+use Rattle.heco_peep.specs.inside.Ready.{IsReady, HasFewWires}
 use Rattle.heco_peep.specs.Rules.{Rule, Handed}
 use Rattle.heco_peep.proofs.OnePass.{Valid, valid, brought, brought_valid}
 use Rattle.heco_peep.proofs.Sizes.{has_room}

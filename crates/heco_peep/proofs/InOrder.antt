@@ -21,7 +21,7 @@ use Rattle.heco_peep.specs.Looks.{Progress, looked}
 use Rattle.heco_peep.specs.Passed.{tried, is_kept, after, passed}
 use Rattle.heco_peep.specs.NoWorse.{Replaces, IsSameCell, IsNoWorse, PassedCircuitsAreNoWorse}
 use Rattle.heco_peep.proofs.OnePass.{Valid, valid, for_none, brought, brought_valid, brought_means, brought_cells, brought_bounds, brought_elsewhere, brought_shapes}
-use Rattle.heco_peep.specs.Ready.{room}
+use Rattle.heco_peep.specs.inside.Ready.{room}
 use Rattle.heco_peep.proofs.Sizes.{has_room}
 
 -- ---- no worse than itself

@@ -5,7 +5,6 @@ pub mod Keeping
 pub mod Products
 pub mod Whole
 pub mod Rows
-pub mod Outputs
 pub mod Sizes
 pub mod Quiet
 pub mod OnePass
@@ -15,7 +14,6 @@ pub mod Taking
 pub mod Before
 pub mod LookOver
 pub mod ByEach
-pub mod Ranges
 pub mod Marks
 pub mod Sieves
 pub mod Examples

@@ -6,16 +6,16 @@ use Rattle.std.proofs.lemmas.List.{append_assoc, append-nil, take_all}
 use Rattle.heco_nums.specs.declared.preset.Preset.{Preset}
 use Rattle.heco_nums.specs.declared.shape.Shape.{Shape}
 use Rattle.heco_noise.specs.Rows.{IsQuiet}
-use Rattle.heco_fields.specs.Runs.{along}
+use Rattle.heco_nums.specs.Runs.{along}
 use Rattle.heco_fields.proofs.Loops.{along_push}
 use Rattle.heco_circuit.specs.declared.gate.Gate.{Gate}
 use Rattle.heco_circuit.specs.Bounds.{fresh_bounds, weights_of, with_bound, is_below}
 use Rattle.heco_circuit.specs.Plans.{Plan, input_parts}
 use Rattle.heco_rewrites.specs.Wires.{over}
 use Rattle.heco_peep.specs.declared.changing.Changed.{Changed}
-use Rattle.heco_peep.specs.Changing.{progress, IsChanged}
+use Rattle.heco_peep.specs.inside.Changing.{progress, IsChanged}
 use Rattle.heco_peep.specs.Looks.{looked, look_behind, unchanged, window}
-use Rattle.heco_peep.specs.Ready.{IsReady}
+use Rattle.heco_peep.specs.inside.Ready.{IsReady}
 use Rattle.heco_peep.specs.Rules.{Handed, IsWindow, is_shown}
 use Rattle.heco_peep.proofs.Before.{IsBefore, looks_at, before}
 use Rattle.heco_peep.proofs.OnePass.{valid}

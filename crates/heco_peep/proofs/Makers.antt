@@ -4,7 +4,7 @@ use Rattle.std.specs.Prelude.{Contains, Option, Some, None, slice_get}
 use Rattle.std.proofs.lemmas.Bool.{ltb-false}
 use Rattle.std.proofs.lemmas.List.{get_or_append_left, get_or_push}
 use Rattle.heco_nums.specs.Presets.{modulus_of, slots_of}
-use Rattle.heco_fields.specs.Runs.{along, all_along}
+use Rattle.heco_nums.specs.Runs.{along, all_along}
 use Rattle.heco_fields.proofs.Bools.{both_true}
 use Rattle.heco_circuit.specs.declared.gate.Gate.{Gate}
 use Rattle.heco_circuit.specs.declared.gate.Gate.TheVariants.{Neg, Add, Sub, Mul, Relin, Scale, Shift, Turn, Weigh}

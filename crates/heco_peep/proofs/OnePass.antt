@@ -4,12 +4,12 @@ use Rattle.std.specs.Prelude.{Some, None, slice_get, slice_index, All, flat_map}
 use Rattle.std.specs.List.{list_all, AllZip}
 use Rattle.std.specs.Option.{is_none}
 use Rattle.std.proofs.lemmas.Bool.{leb-true, le-leb, ltb-true}
-use Rattle.std.proofs.lemmas.Bool.Decides.{nat_tests}
 use Rattle.std.proofs.lemmas.List.{length-map}
 use Rattle.heco_nums.specs.Presets.{modulus_of, slots_of}
 use Rattle.heco_nums.specs.declared.preset.Preset.{Preset}
 use Rattle.heco_noise.specs.Rows.{IsQuiet}
-use Rattle.heco_fields.specs.Runs.{all_along}
+use Rattle.heco_nums.specs.Runs.{all_along}
+use Rattle.heco_nums.proofs.PresetCases.{modulus_pos}
 use Rattle.heco_fields.proofs.Bools.{both_true, and_true}
 use Rattle.heco_circuit.specs.declared.gate.Cell.{Cell}
 use Rattle.heco_circuit.specs.declared.gate.Cell.TheVariants.{Number, Slot}
@@ -20,6 +20,7 @@ use Rattle.heco_circuit.specs.Circuits.{IsCircuit, passing}
 use Rattle.heco_circuit.specs.Plans.{Plan, input_parts, wire_parts, is_vector, is_input, is_output, is_cell, push, are_inputs, are_vectors, are_gates, are_outputs, is_formed, shape_of}
 use Rattle.heco_circuit.specs.Validity.{is_between, is_gate, is_wire, has_parts, with_gate}
 use Rattle.heco_circuit.proofs.QuietLaw.{quiet_law}
+use Rattle.heco_circuit.proofs.Lengths.{length-input_parts}
 use Rattle.heco_meaning.specs.Meanings.{wire_at, wires_of, meaning_of, output_values}
 use Rattle.heco_texts.specs.Answers.{HaveFit}
 use Rattle.heco_thrift.specs.Homes.{all_cells}
@@ -32,12 +33,12 @@ use Rattle.heco_peep.specs.Looks.{Progress, looked}
 use Rattle.heco_peep.specs.Passed.{renamed, needed_of, without_dead}
 use Rattle.heco_peep.specs.NoWorse.{weighed_by, AreBelowElsewhere, IsSameCell}
 use Rattle.heco_peep.proofs.Look.{Ground, Formed}
-use Rattle.heco_peep.proofs.Whole.{base, wires, length-input_parts, shown_output, new_name, IsUnder, Arrives, arrives}
+use Rattle.heco_peep.proofs.Whole.{base, wires, shown_output, new_name, IsUnder, Arrives, arrives}
 use Rattle.heco_peep.proofs.Rows.{base_even, rows_long, rows_full, no_rows, blank_full}
-use Rattle.heco_peep.proofs.Outputs.{cells_stand, outputs_stand, outputs_mean, cell_stands, cell_means, outputs_twice, same_shapes, zip_outputs}
+use Rattle.heco_rewrites.proofs.Outputs.{cells_stand, outputs_stand, outputs_mean, cell_stands, cell_means, outputs_twice, same_shapes, zip_outputs}
 use Rattle.heco_peep.proofs.Products.{weighs_at, maker_weighs}
 use Rattle.heco_peep.proofs.Quiet.{bounds_long, none_passes, below_most, all_below_most}
-use Rattle.heco_peep.specs.Ready.{room}
+use Rattle.heco_peep.specs.inside.Ready.{room}
 use Rattle.heco_peep.proofs.Sizes.{short, outputs_room}
 
 -- ---- what a valid circuit has
@@ -73,14 +74,11 @@ valid c h =
       quiet = quiet_law c h;
     }
 
-pub modulus_some : (id : ℕ) → 0 < modulus_of id
-modulus_some id = grind (arith, nat_tests)
-
 -- ---- what comes of a pass, under the circuit's own preset
 pub here : (p : Preset) (c : Plan) (rule : Rule) (state : List ℕ) (rows : List (List ℕ)) → p.id ≡ c.preset → Valid c → length rows ≡ length c.inputs → AreFull c.preset (base c.preset c rows)
     → Arrives c.preset c rows (looked p c rule state)
 here p c rule state rows q v e full =
-    let ground : Ground c.preset c.vectors (base c.preset c rows) = record { some = modulus_some c.preset; vectors = v.vectors_are; even = base_even c.preset c rows e; full = full } in
+    let ground : Ground c.preset c.vectors (base c.preset c rows) = record { some = modulus_pos c.preset; vectors = v.vectors_are; even = base_even c.preset c rows e; full = full } in
     subst (λ id. Arrives id c rows (looked p c rule state)) q
     (arrives p c rows rule state (subst (λ id. Ground id c.vectors (base id c rows)) (sym q) ground) (subst (λ id. Formed id c.vectors (base id c rows) c.gates) (sym q) v.gates))
 
@@ -88,10 +86,10 @@ full_rows : (c : Plan) (rows : List (List ℕ)) → Valid c → HaveFit (modulus
 full_rows c rows v h a l =
     let u = both_true (leb (length c.inputs) 256) (all_along (is_input (slots_of c.preset)) push [] c.inputs) v.inputs in
     let m = length-input_parts c.inputs in
-    rows_full c.preset [] c.inputs rows (modulus_some c.preset) u.1 h a (omega (arith, l, m))
+    rows_full c.preset [] c.inputs rows (modulus_pos c.preset) u.1 h a (omega (arith, l, m))
 
 pub full_blank : (c : Plan) → AreFull c.preset (base c.preset c (no_rows c.inputs))
-full_blank c a l = let m = length-input_parts c.inputs in blank_full c.preset c.inputs (modulus_some c.preset) a (omega (arith, l, m))
+full_blank c a l = let m = length-input_parts c.inputs in blank_full c.preset c.inputs (modulus_pos c.preset) a (omega (arith, l, m))
 
 pub for_rows : (p : Preset) (c : Plan) (rule : Rule) (state : List ℕ) (rows : List (List ℕ)) → p.id ≡ c.preset → Valid c → HaveFit (modulus_of c.preset) c.inputs rows → Arrives c.preset c rows (looked p c rule state)
 for_rows p c rule state rows q v h = here p c rule state rows q v (rows_long (modulus_of c.preset) c.inputs rows h) (full_rows c rows v h)

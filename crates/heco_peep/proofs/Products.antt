@@ -6,7 +6,7 @@ use Rattle.std.proofs.lemmas.Bool.{cases_lt, le-ltb, ltb-false}
 use Rattle.std.proofs.lemmas.List.{get_or_append_left, get_or_push, append_assoc, append-nil}
 use Rattle.std.proofs.lemmas.List.FromFn.{length-range_with_len}
 use Rattle.heco_nums.specs.declared.preset.Preset.{Preset}
-use Rattle.heco_fields.specs.Runs.{along}
+use Rattle.heco_nums.specs.Runs.{along}
 use Rattle.heco_circuit.specs.declared.gate.Gate.{Gate}
 use Rattle.heco_circuit.specs.declared.gate.Gate.TheVariants.{Neg, Add, Sub, Mul, Relin, Scale, Shift, Turn, Weigh}
 use Rattle.heco_circuit.specs.Bounds.{with_bound}

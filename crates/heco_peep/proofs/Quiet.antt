@@ -4,7 +4,7 @@ use Rattle.std.specs.Prelude.{All, Some, None, slice_index}
 use Rattle.std.proofs.lemmas.Bool.{lt-leb}
 use Rattle.std.proofs.lemmas.List.{get_or_append_left, get_or_push, get_or-drop, length-drop, get_or_default}
 use Rattle.heco_noise.specs.Rows.{passes, IsQuiet}
-use Rattle.heco_fields.specs.Runs.{along}
+use Rattle.heco_nums.specs.Runs.{along}
 use Rattle.heco_circuit.specs.declared.gate.Gate.{Gate}
 use Rattle.heco_circuit.specs.Bounds.{bound_of, with_bound, first_passing}
 use Rattle.heco_rewrites.proofs.Named.{longer}

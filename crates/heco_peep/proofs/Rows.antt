@@ -7,20 +7,16 @@ use Rattle.std.proofs.lemmas.List.{length-map, length-replicate}
 use Rattle.std.proofs.lemmas.List.Elements.{All-append, All-replicate}
 use Rattle.heco_nums.specs.Presets.{modulus_of, slots_of}
 use Rattle.heco_nums.specs.declared.shape.Shape.{Shape}
-use Rattle.heco_fields.specs.Runs.{all_along}
+use Rattle.heco_nums.specs.Runs.{all_along}
 use Rattle.heco_fields.proofs.Bools.{both_true}
-use Rattle.heco_circuit.specs.Bounds.{fresh_bounds}
 use Rattle.heco_circuit.specs.Plans.{Plan, is_input, is_name, push}
 use Rattle.heco_circuit.specs.Validity.{is_between}
+use Rattle.heco_circuit.proofs.Lengths.{length-input_parts, length-fresh_bounds}
 use Rattle.heco_meaning.specs.Meanings.{wire_at, filled}
 use Rattle.heco_texts.specs.Answers.{HaveFit}
 use Rattle.heco_rewrites.specs.Wires.{Even}
 use Rattle.heco_rewrites.specs.Full.{IsFull}
-use Rattle.heco_peep.proofs.Whole.{base, length-input_parts}
-
-length-fresh_bounds : {A : Type 0} (id : ℕ) (xs : List A) → length (fresh_bounds id xs) ≡ length xs
-length-fresh_bounds id [] = refl
-length-fresh_bounds id (x ∷ xs) = ap suc (length-fresh_bounds id xs)
+use Rattle.heco_peep.proofs.Whole.{base}
 
 pub base_even : (id : ℕ) (c : Plan) (rows : List (List ℕ)) → length rows ≡ length c.inputs → Even (base id c rows)
 base_even id c rows e = record {

@@ -3,12 +3,12 @@ use Rattle.std.proofs.Common.{◌≡◌, ℕ, ◌+◌, ◌<◌, ◌≤◌, List,
 use Rattle.std.proofs.lemmas.List.{length-replicate, get_or-replicate}
 use Rattle.std.specs.List.{range_with_len}
 use Rattle.std.proofs.lemmas.List.FromFn.{length-range_with_len}
-use Rattle.heco_fields.specs.Runs.{along}
+use Rattle.heco_nums.specs.Runs.{along}
 use Rattle.heco_circuit.specs.declared.gate.Gate.{Gate}
 use Rattle.heco_rewrites.specs.Needed.{Kept, kept, kept_where, needed}
 use Rattle.heco_rewrites.specs.Dropping.{needed_gates}
 use Rattle.heco_rewrites.proofs.Named.{longer}
-use Rattle.heco_peep.specs.Dropped.{is_marked, sieve}
+use Rattle.heco_peep.specs.inside.Dropped.{is_marked, sieve}
 
 names_more : (count : ℕ) (s : Kept) (g : Gate) (b : Bool) → length (kept_where count s g b).names ≡ length s.names + 1
 names_more count s g true = longer s.names (count + length s.gates)

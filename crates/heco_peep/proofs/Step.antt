@@ -5,19 +5,20 @@ use Rattle.std.proofs.lemmas.Bool.{cases_lt, leb-true, eqb-true}
 use Rattle.std.proofs.lemmas.List.{get_or_append_left, get_or_push}
 use Rattle.heco_nums.specs.Presets.{modulus_of, slots_of}
 use Rattle.heco_nums.specs.declared.preset.Preset.{Preset}
-use Rattle.heco_fields.specs.Runs.{along, all_along}
+use Rattle.heco_nums.specs.Runs.{along, all_along}
 use Rattle.heco_fields.proofs.Bools.{both_true}
 use Rattle.heco_fields.proofs.Loops.{along_push}
 use Rattle.heco_circuit.specs.declared.gate.Gate.{Gate}
 use Rattle.heco_circuit.specs.Bounds.{bound_of, weights_of}
 use Rattle.heco_circuit.specs.Validity.{parts_of, with_gate, is_gate}
 use Rattle.heco_meaning.specs.Meanings.{wire_at, wire_of}
-use Rattle.heco_rewrites.specs.Wires.{Wires, behind, operands, over, StandsFor, OperandsStand, Named, Keeps}
+use Rattle.heco_rewrites.specs.Wires.{Wires, behind, operands, over, StandsFor, OperandsStand, Named}
 use Rattle.heco_rewrites.specs.Renaming.{IsRenamed}
 use Rattle.heco_rewrites.proofs.OtherNames.{first}
 use Rattle.heco_rewrites.proofs.Renamed.{renamed}
 use Rattle.heco_rewrites.proofs.Named.{longer, own_stands, wire_stands, named_push}
 use Rattle.heco_rewrites.proofs.Along.{along_parts, along_bounds, along_long, all_push, gate_below}
+use Rattle.heco_rewrites.proofs.Dropping.{keeps_itself}
 use Rattle.heco_peep.specs.declared.window.Swap.{Swap}
 use Rattle.heco_peep.specs.declared.window.Swap.TheVariants as swap
 use Rattle.heco_peep.specs.Rules.{Rule, IsLawful, is_shown, in_range}
@@ -32,9 +33,6 @@ pub record Going (id : ℕ) (vs : List (List ℕ)) (start old : Wires) (s : Prog
   pub formed : Formed id vs start s.gates
   pub level : length (along (behind id vs) start s.gates).parts ≡ length old.parts
   pub under : (a : ℕ) → a < length old.parts → slice_index (along (behind id vs) start s.gates).bounds a ≤ slice_index old.bounds a
-
-keeps_itself : (vs : List (List ℕ)) → Keeps vs vs
-keeps_itself vs = record { few = omega arith; each = λ v l. refl }
 
 under_push : (xs ys : List ℕ) (x y n : ℕ) → length xs ≡ n → length ys ≡ n → ((a : ℕ) → a < n → slice_index xs a ≤ slice_index ys a) → x ≤ y → (a : ℕ) → a < n + 1 → slice_index (xs ++ x ∷ []) a ≤ slice_index (ys ++ y ∷ []) a
 under_push xs ys x y n e f h l a la = elim (cases_lt a n) [

@@ -3,19 +3,19 @@ use Rattle.std.proofs.Common.{◌≡◌, ℕ, ◌+◌, List, [], length, ap, sym
 use Rattle.std.specs.Prelude.{Option, Some, None, Result, Ok, Err, OnOk, slice_index}
 use Rattle.heco_nums.specs.declared.preset.Preset.{Preset}
 use Rattle.heco_nums.specs.declared.shape.Shape.{Shape}
-use Rattle.heco_fields.specs.Runs.{along}
+use Rattle.heco_nums.specs.Runs.{along}
 use Rattle.heco_circuit.specs.declared.gate.Gate.{Gate}
 use Rattle.heco_circuit.specs.Bounds.{with_bound, fresh_bounds}
 use Rattle.heco_circuit.specs.Plans.{input_parts}
 use Rattle.heco_circuit.specs.Validity.{with_gate}
+use Rattle.heco_circuit.proofs.Lengths.{length-input_parts}
 use Rattle.heco_rewrites.specs.Wires.{over}
 use Rattle.heco_peep.specs.declared.changing.Changed.{Changed}
 use Rattle.heco_peep.specs.declared.window.Swap.{Swap}
 use Rattle.heco_peep.specs.declared.window.Swap.TheVariants as swap
 use Rattle.heco_peep.specs.Rules.{Rule}
 use Rattle.heco_peep.specs.Looks.{Progress, fits, put, taken, answered, look_behind}
-use Rattle.heco_peep.specs.Changing.{progress, IsChanged, HasGrown, HasTaken}
-use Rattle.heco_peep.proofs.Whole.{length-input_parts}
+use Rattle.heco_peep.specs.inside.Changing.{progress, IsChanged, HasGrown, HasTaken}
 
 pub on_ok : {A E : Type 0} {P Q : Type 0} (r : Result A E) → OnOk r P → (P → Q) → OnOk r Q
 on_ok (Ok x) p f = f p

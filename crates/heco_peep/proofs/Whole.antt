@@ -1,18 +1,19 @@
 -- A pass over a circuit and the dropping of dead gates, put together.
-use Rattle.std.proofs.Common.{◌≡◌, ℕ, zero, suc, ◌+◌, ◌-◌, ◌<◌, ◌≤◌, List, [], ◌∷◌, length, map, refl, ap, sym, ◌∙◌, arith, Bool, true, false, ◌||◌, subst}
+use Rattle.std.proofs.Common.{◌≡◌, ℕ, zero, suc, ◌+◌, ◌-◌, ◌<◌, ◌≤◌, List, [], ◌∷◌, length, map, refl, sym, ◌∙◌, arith, Bool, true, false, ◌||◌, subst}
 use Rattle.std.specs.Prelude.{Some, slice_get, slice_index}
 use Rattle.std.specs.List.{list_any, range_with_len}
 use Rattle.std.proofs.lemmas.Bool.{eq-eqb}
 use Rattle.std.proofs.lemmas.List.FromFn.{length-range_with_len, get_or-range_with_len}
 use Rattle.heco_nums.specs.Presets.{slots_of}
 use Rattle.heco_nums.specs.declared.preset.Preset.{Preset}
-use Rattle.heco_fields.specs.Runs.{along}
+use Rattle.heco_nums.specs.Runs.{along}
 use Rattle.heco_circuit.specs.declared.gate.Cell.{Cell}
 use Rattle.heco_circuit.specs.declared.gate.Cell.TheVariants.{Slot}
 use Rattle.heco_circuit.specs.declared.gate.Gate.{Gate}
 use Rattle.heco_circuit.specs.declared.gate.Output.{Output}
 use Rattle.heco_circuit.specs.Bounds.{fresh_bounds, weights_of}
 use Rattle.heco_circuit.specs.Plans.{Plan, input_parts}
+use Rattle.heco_circuit.proofs.Lengths.{length-input_parts}
 use Rattle.heco_meaning.specs.Meanings.{filled}
 use Rattle.heco_rewrites.specs.Wires.{Wires, behind, StandsFor, Even, cell_over, output_over, maker}
 use Rattle.heco_rewrites.specs.Needed.{Kept, needed}
@@ -35,10 +36,6 @@ base id c rows = record { parts = input_parts c.inputs; bounds = fresh_bounds id
 
 abbrev pub wires : ℕ → Plan → List (List ℕ) → List Gate → Wires
 wires id c rows gates = along (behind id c.vectors) (base id c rows) gates
-
-pub length-input_parts : {A : Type 0} (xs : List A) → length (input_parts xs) ≡ length xs
-length-input_parts [] = refl
-length-input_parts (x ∷ xs) = ap suc (length-input_parts xs)
 
 -- ---- before the first look
 itself : (start : Wires) (n a : ℕ) → n ≡ length start.parts → a < length start.parts → StandsFor start start a (slice_index (range_with_len 0 n) a)

@@ -6,6 +6,5 @@ pub mod SubRule
 pub mod Moduli
 pub mod ScaleRule
 pub mod NoWorse
-pub mod Changing
-pub mod Ready
-pub mod Dropped
+pub mod inside
+pub mod Silent

@@ -69,7 +69,8 @@ euclid t zero c d p few l low less h = absurd (omega (arith, l, low))
 euclid t (suc n) zero d p few l low less h = absurd (omega (arith, low))
 euclid t (suc n) (suc zero) d p few l low less h = let e : 1 * d ≡ d = omega arith in rw (← e) h
 euclid t (suc n) (suc (suc c)) d p few l low less h =
-    by_rest (t % suc (suc c)) refl (λ r q low' less'. euclid t n r d p few (let b : t % suc (suc c) < suc (suc c) = mod-lt t (omega arith) in omega (arith, q, b, l))
+    by_rest (t % suc (suc c)) refl (λ r q low' less'. euclid t n r d p few
+    (let b : t % suc (suc c) < suc (suc c) = mod-lt t (omega arith) in omega (arith, q, b, l))
     low' less' (rw (← q) (smaller t (suc (suc c)) d h)))
   where
     by_rest : (r : ℕ) → t % suc (suc c) ≡ r → ((r : ℕ) → t % suc (suc c) ≡ r → 1 ≤ r → r < t → d % t ≡ 0) → d % t ≡ 0

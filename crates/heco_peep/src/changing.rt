@@ -5,13 +5,13 @@ ghost use Rattle.heco_circuit.specs.Plans.{input_parts};
 ghost use Rattle.heco_rewrites.specs.Wires.{over};
 ghost use Rattle.heco_peep.specs.Rules.{is_below_in, is_shown, IsWindow};
 ghost use Rattle.heco_peep.specs.Looks.{look_behind, window};
-ghost use Rattle.heco_peep.specs.Changing.{progress, IsChanged, HasGrown, HasTaken};
+ghost use Rattle.heco_peep.specs.inside.Changing.{progress, IsChanged, HasGrown, HasTaken};
 
-use crate::fitting::{bound_of, fits, parts_of};
+use crate::fitting::fits;
 use crate::looking::ask;
 use crate::pass::Pass;
 use crate::window::Swap;
-use heco_circuit::Gate;
+use heco_circuit::{Gate, bound_of, parts_of};
 use heco_nums::{List, Memory, Preset, Shape};
 use heco_rewrites::over;
 
@@ -40,7 +40,7 @@ fn grow(
     ensures grown { OnOk result (HasGrown changed.old changed.new gate name) }
     ensures stands { OnOk result (IsChanged p.now.id weights.now inputs.now changed.new) }
 {
-    let _inputs = inputs.len();
+    let _valid = inputs.len();
     let parts = parts_of(changed.parts.as_slice(), gate);
     let bound = bound_of(p, weights, changed.bounds.as_slice(), gate);
     changed.gates.push(gate)?;

@@ -1,12 +1,11 @@
 ghost use Rattle.std.specs.Prelude.{◌≡◌, ◌+◌, ◌<◌, ◌^◌, false, [], length, slice_index_or, IfOk, OnOk};
 ghost use Rattle.std.specs.List.{range_with_len};
 ghost use Rattle.heco_rewrites.specs.Needed.{kept_where};
-ghost use Rattle.heco_peep.specs.Dropped.{kept_so_far, sieve};
+ghost use Rattle.heco_peep.specs.inside.Dropped.{kept_so_far, sieve};
 
-use crate::starting::input_names;
 use heco_circuit::Gate;
 use heco_nums::{List, Memory};
-use heco_rewrites::over;
+use heco_rewrites::{input_names, over};
 use std::alloc::Global;
 
 /// Gates that stay, and the wire that each old wire is now.

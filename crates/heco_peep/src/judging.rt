@@ -4,25 +4,16 @@ ghost use Rattle.heco_circuit.specs.Needs.{is_relin};
 ghost use Rattle.heco_thrift.specs.Thrift.{is_product};
 ghost use Rattle.heco_peep.specs.Passed.{is_kept};
 
-use heco_circuit::{Circuit, Gate, needs};
+use heco_circuit::{Circuit, Gate, is_relin, needs};
 use heco_nums::Memory;
 use std::alloc::Global;
-
-fn is_relin(gate: Gate) -> bool
-    ensures { result ≡ is_relin gate }
-{
-    match gate {
-        Gate::Relin { .. } => true,
-        _ => false,
-    }
-}
 
 fn count_relins(gates: &[Gate]) -> usize
     ensures { result ≡ count_by is_relin gates.now }
 {
     let mut count = 0;
     for gate in gates {
-        if is_relin(*gate) {
+        if is_relin(gate) {
             count += 1;
         }
     }

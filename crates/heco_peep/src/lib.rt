@@ -17,7 +17,6 @@ mod running;
 mod scale;
 mod starting;
 mod sub;
-mod weights;
 mod window;
 
 pub use laws::passed_circuits_are_no_worse;

@@ -1,7 +1,7 @@
 ghost use Rattle.std.specs.Prelude.{◌≡◌, ◌+◌, ◌<◌, ◌^◌, false, length, map, replicate, slice_index, IfOk};
 ghost use Rattle.heco_rewrites.specs.Dropping.{needed_gates};
 ghost use Rattle.heco_rewrites.specs.Wires.{output_over};
-ghost use Rattle.heco_peep.specs.Dropped.{kept_so_far};
+ghost use Rattle.heco_peep.specs.inside.Dropped.{kept_so_far};
 ghost use Rattle.heco_peep.specs.Passed.{shows};
 
 use crate::dropping::{Staying, keep};

@@ -1,7 +1,7 @@
 ghost use Rattle.std.specs.Prelude.{◌≡◌, ◌+◌, ◌<◌, ◌||◌, ◌==◌, ℕ, false, length, slice_index_or};
 ghost use Rattle.std.specs.List.{list_any};
 ghost use Rattle.heco_rewrites.specs.Needed.{reads, needed};
-ghost use Rattle.heco_peep.specs.Dropped.{is_marked};
+ghost use Rattle.heco_peep.specs.inside.Dropped.{is_marked};
 ghost use Rattle.heco_peep.specs.Passed.{names_wire, shows};
 
 use heco_circuit::{Cell, Gate, Output};

@@ -1,8 +1,8 @@
 ghost use Rattle.std.specs.Prelude.{◌≡◌, [], IfOk, OnOk};
 ghost use Rattle.heco_circuit.specs.Circuits.{IsCircuit};
-ghost use Rattle.heco_peep.specs.Changing.{progress};
+ghost use Rattle.heco_peep.specs.inside.Changing.{progress};
 ghost use Rattle.heco_peep.specs.Passed.{after, moved, renamed, tried, without_dead};
-ghost use Rattle.heco_peep.specs.Ready.{IsReady, HasFewWires};
+ghost use Rattle.heco_peep.specs.inside.Ready.{IsReady, HasFewWires};
 
 use crate::changing::Changed;
 use crate::judging::is_kept;

@@ -1,7 +1,7 @@
 ghost use Rattle.std.specs.Prelude.{◌≡◌, IfOk};
-ghost use Rattle.heco_peep.specs.Changing.{progress};
+ghost use Rattle.heco_peep.specs.inside.Changing.{progress};
 ghost use Rattle.heco_peep.specs.Looks.{looked};
-ghost use Rattle.heco_peep.specs.Ready.{IsReady};
+ghost use Rattle.heco_peep.specs.inside.Ready.{IsReady};
 
 use crate::changing::{Changed, look_one};
 use crate::pass::Pass;

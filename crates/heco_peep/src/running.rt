@@ -1,12 +1,11 @@
 ghost use Rattle.std.specs.Prelude.{◌≡◌, map, IfOk, OnOk};
 ghost use Rattle.heco_peep.specs.NoWorse.{HasFewBytes};
 ghost use Rattle.heco_peep.specs.Passed.{passed, passed_on, IsPassed};
-ghost use Rattle.heco_peep.specs.Ready.{IsReady};
+ghost use Rattle.heco_peep.specs.inside.Ready.{IsReady};
 
 use crate::once::pass_over;
 use crate::pass::Pass;
-use crate::weights::weights_of;
-use heco_circuit::Circuit;
+use heco_circuit::{Circuit, weights_of};
 use heco_nums::{Memory, Preset};
 use std::alloc::Global;
 

@@ -4,46 +4,10 @@ ghost use Rattle.heco_circuit.specs.Bounds.{fresh_bounds};
 ghost use Rattle.heco_circuit.specs.Plans.{input_parts};
 
 use crate::changing::Changed;
-use heco_noise::fresh;
+use heco_circuit::{fresh_bounds, input_parts};
 use heco_nums::{List, Memory, Preset, Shape};
+use heco_rewrites::input_names;
 use std::alloc::Global;
-
-/// The names of so many inputs.
-pub fn input_names(alloc: Global, inputs: u32) -> Result<List<u32>, Memory>
-    ensures { IfOk result (λ names. names ≡ range_with_len 0 inputs) }
-{
-    let mut names = List::new(alloc);
-    for i in 0..inputs {
-        names.push(i)?;
-    }
-    Ok(names)
-}
-
-/// Two parts for each input.
-fn input_parts(alloc: Global, inputs: &[Shape]) -> Result<List<u8>, Memory>
-    ensures { IfOk result (λ parts. parts ≡ input_parts inputs.now) }
-{
-    let mut parts = List::new(alloc);
-    let mut rest = inputs;
-    while let [_, after @ ..] = rest {
-        parts.push(2)?;
-        rest = after;
-    }
-    Ok(parts)
-}
-
-/// A fresh bound for each input.
-fn fresh_bounds(alloc: Global, p: &Preset, inputs: &[Shape]) -> Result<List<u128>, Memory>
-    ensures { IfOk result (λ bounds. bounds ≡ fresh_bounds p.now.id inputs.now) }
-{
-    let mut bounds = List::new(alloc);
-    let mut rest = inputs;
-    while let [_, after @ ..] = rest {
-        bounds.push(fresh(p))?;
-        rest = after;
-    }
-    Ok(bounds)
-}
 
 /// Before the first look: no gates, and the wires of the inputs.
 pub fn started(alloc: Global, p: &Preset, inputs: &[Shape]) -> Result<Changed, Memory>

@@ -1,3 +1,2 @@
-pub mod Silent
 pub mod Louder
 pub mod Longer

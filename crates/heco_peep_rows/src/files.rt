@@ -1,5 +1,5 @@
-use heco_circuit::{Circuit, read};
-use heco_listing::listing;
+use heco_circuit::Circuit;
+use heco_circuit_rows::circuit_in;
 use std::alloc::Global;
 use std::test::Fail;
 
@@ -19,31 +19,7 @@ order 484349520101000200000001780001000000017a0001000000030100000001010000000202
 chain 4843495201010001000000017800010000000301000000000100000001010000000200010000000179000101000000030000
 cells 484349520101000100000001780001000000030100000000010000000107000000050000000200010000000179000301000000020000000000000701000000030000";
 
-fn file_of(alloc: Global, name: &str) -> Result<Vec<u8>, Fail> {
-    for line in FILES.lines() {
-        let (first, text) = line.split_once(' ').unwrap_or(("", ""));
-        if first == name {
-            return Ok(hex::decode(alloc, text)?);
-        }
-    }
-    Err("no file".into())
-}
-
 /// The circuit of the file of that name.
 pub fn circuit_of(alloc: Global, name: &str) -> Result<Circuit, Fail> {
-    let file = file_of(alloc, name)?;
-    Ok(read(alloc, file.as_slice())?)
-}
-
-fn marked(c: u8) -> u8 {
-    if c == b'\n' { b'$' } else { c }
-}
-
-/// The listing, with `$` for each line end.
-pub fn shown(alloc: Global, c: &Circuit) -> Result<Vec<u8>, Fail> {
-    let mut text = Vec::new(alloc);
-    for byte in listing(alloc, c)?.as_slice() {
-        text.push(marked(*byte))?;
-    }
-    Ok(text)
+    circuit_in(alloc, FILES, name)
 }

@@ -1,6 +1,7 @@
-use crate::files::{circuit_of, shown};
+use crate::files::circuit_of;
 use crate::passes::passes_of;
 use heco_circuit::{Circuit, write};
+use heco_circuit_rows::{shown, wanted};
 use heco_peep::{Pass, run_passes};
 use std::alloc::Global;
 use std::cell::Cell;
@@ -46,10 +47,6 @@ fn passed(alloc: Global, name: &str, letters: &str) -> Result<(Circuit, u32), Fa
     let mut passes = passes_of(alloc, letters, &looks)?;
     let d = run(alloc, c, &mut passes)?;
     Ok((d, looks.get()))
-}
-
-fn wanted<'a>(before: &'a str, after: &'a str) -> &'a str {
-    if after == "same" { before } else { after }
 }
 
 // The name with the letters, the listings, and the number of windows.

@@ -13,7 +13,7 @@ pub struct Counted {
 
 impl Pass for Counted {
     ghost use Rattle.std.specs.Prelude.{[]};
-    ghost use Rattle.heco_peep_rows.specs.Silent.{silent_rule};
+    ghost use Rattle.heco_peep.specs.Silent.{silent_rule};
 
     ghost handed = { λ _. record { rule = silent_rule; state = [] } };
 

@@ -13,7 +13,7 @@ use Rattle.heco_ir.proofs.Built.{slice_get_below}
 use Rattle.heco_ir.proofs.Renaming.{get_or-map-lt}
 use Rattle.heco_place.specs.declared.depth.Depth.{Depth}
 use Rattle.heco_place.specs.declared.depth.Depth.TheVariants.{Quiet, Deep}
-use Rattle.heco_place.specs.Depths.{depth_where, depth_of}
+use Rattle.heco_place.specs.inside.Depths.{depth_where, depth_of}
 use Rattle.heco_place.specs.Fitting.{terms_of, HomeWithin}
 use Rattle.heco_place.specs.Refusals.{home_bound, NoneDeep}
 use Rattle.heco_place.proofs.DepthLaws.{depth_at}

@@ -15,7 +15,7 @@ use Rattle.heco_ir.specs.Vectors.{vector_operands}
 use Rattle.heco_ir.specs.Used.{EachOnce, IsUsed, root, operand, AllUsed}
 use Rattle.heco_ir.specs.Terms.{vector_terms, terms_at}
 use Rattle.heco_ir.proofs.Unique.{covered}
-use Rattle.heco_place.specs.Dues.{takes, is_taken}
+use Rattle.heco_place.specs.inside.Dues.{takes, is_taken}
 use Rattle.heco_place.specs.Kinds.{is_relinearised}
 use Rattle.heco_place.proofs.Bools.{left, or_left, or_right, equal}
 use Rattle.heco_place.proofs.NodeTerms.{length-vector_terms, is_node, term_is}

@@ -1,7 +1,7 @@
 -- What each kind of gate carries, from what its operands carry.
 use Rattle.std.proofs.Common.{◌≡◌, ℕ, ◌+◌, ◌-◌, ◌*◌, ◌%◌, ◌<◌, ◌≤◌, Bool, true, false, ◌||◌, max, List, length, map, refl, ap, ◌∙◌, arith}
 use Rattle.std.proofs.lemmas.Bool.{lt-ltb, le-leb, eq-eqb}
-use Rattle.heco_nums.specs.Presets.{modulus_of, slots_of, degree_of, weight_of}
+use Rattle.heco_nums.specs.Presets.{modulus_of, slots_of, degree_of, hamming_weight_of}
 use Rattle.heco_nums.specs.declared.shape.Shape.{Shape}
 use Rattle.heco_written.specs.VectorTerm.{VectorTerm, Negated, Added, Multiplied, Scaled, Shifted, Turned, slot_value}
 use Rattle.heco_written.specs.Bound.{Scheme, scheme_of}
@@ -9,10 +9,10 @@ use Rattle.heco_circuit.specs.declared.gate.Gate.{Gate}
 use Rattle.heco_circuit.specs.declared.gate.Gate.TheVariants.{Neg, Add, Mul, Relin, Scale, Shift, Turn}
 use Rattle.heco_circuit.specs.Validity.{is_wire, has_parts, is_between, parts_of}
 use Rattle.heco_circuit.specs.Plans.{input_parts}
-use Rattle.heco_circuit.proofs.Formed.{length-input_parts}
+use Rattle.heco_circuit.proofs.Lengths.{length-input_parts}
 use Rattle.heco_meaning.specs.Meanings.{turned}
 use Rattle.heco_thrift.specs.Homes.{world_of}
-use Rattle.heco_place.specs.Carried.{all_parts, parts_where, share, Carries, Gives}
+use Rattle.heco_place.specs.inside.Carried.{all_parts, parts_where, share, Carries, Gives}
 use Rattle.heco_place.proofs.Bools.{both}
 use Rattle.heco_place.proofs.Growing.{length-along}
 use Rattle.heco_place.proofs.SlotLists.{map-range, sums-range, products-range, turned-range}
@@ -79,7 +79,7 @@ module _ (id : ℕ) (inputs : List Shape) (gates : List Gate) where
   gives_mul a b v u c d = record {
     valid = both _ _ (has_its_parts a false v c) (has_its_parts b false u d);
     parts_are = refl;
-    bound_within = plus-le _ _ _ (multiplied-le (degree_of id) (modulus_of id) (weight_of id) _ _ _ _ (plain-le _ _ c.bound_within) (plain-le _ _ d.bound_within));
+    bound_within = plus-le _ _ _ (multiplied-le (degree_of id) (modulus_of id) (hamming_weight_of id) _ _ _ _ (plain-le _ _ c.bound_within) (plain-le _ _ d.bound_within));
     slots_are = λ rs r.
         rw (c.slots_are rs r, d.slots_are rs r) (products-range t (slot_value (world_of id rs) v) (slot_value (world_of id rs) u) 0 (slots_of id));
   }

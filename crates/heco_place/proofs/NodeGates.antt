@@ -18,11 +18,11 @@ use Rattle.heco_circuit.specs.declared.gate.Gate.{Gate}
 use Rattle.heco_place.specs.declared.carrier.Carrier.{Carrier}
 use Rattle.heco_place.specs.declared.way.Way.{Way}
 use Rattle.heco_place.specs.declared.way.Way.TheVariants.{Wire, Gate as ByGate}
-use Rattle.heco_place.specs.Carried.{Carries, Gives}
+use Rattle.heco_place.specs.inside.Carried.{Carries, Gives}
 use Rattle.heco_place.specs.Fitting.{Fits}
-use Rattle.heco_place.specs.Ways.{nowhere, carrier_at, way_of}
+use Rattle.heco_place.specs.inside.Ways.{nowhere, carrier_at, way_of}
 use Rattle.heco_place.specs.Kinds.{kind, kinds, relinearisation_where, is_relinearised}
-use Rattle.heco_place.specs.Placing.{due_at, IsCarrier}
+use Rattle.heco_place.specs.inside.Placing.{due_at, IsCarrier}
 use Rattle.heco_place.proofs.Bools.{or_left, or_right}
 use Rattle.heco_place.proofs.GateGives.{gives_neg, gives_add, gives_mul, gives_scale, gives_shift, gives_turn}
 

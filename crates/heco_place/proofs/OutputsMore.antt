@@ -11,7 +11,7 @@ use Rattle.heco_ir.specs.declared.home.Home.{Home}
 use Rattle.heco_circuit.specs.declared.gate.Cell.{Cell}
 use Rattle.heco_circuit.specs.declared.gate.Output.{Output}
 use Rattle.heco_circuit.specs.Plans.{shape_of}
-use Rattle.heco_place.specs.Cells.{cells_of}
+use Rattle.heco_place.specs.inside.Cells.{cells_of}
 use Rattle.heco_place.specs.Fitting.{AllHomesWithin}
 
 same_shape : (o : Output) (s : Shape) → o.name ≡ s.name → length o.cells ≡ s.len → shape_of o ≡ s

@@ -8,7 +8,7 @@ use Rattle.std.proofs.lemmas.List.{get_or-drop, get_or_default, length-drop, len
 use Rattle.std.proofs.lemmas.List.Elements.{filter_agree}
 use Rattle.heco_nums.specs.Presets.{modulus_of, slots_of}
 use Rattle.heco_nums.specs.declared.shape.Shape.{Shape}
-use Rattle.heco_fields.specs.Runs.{along}
+use Rattle.heco_nums.specs.Runs.{along}
 use Rattle.heco_noise.specs.Rows.{IsQuiet}
 use Rattle.heco_written.specs.VectorTerm.{VectorTerm, Input}
 use Rattle.heco_written.specs.Cost.{all_subterms, cost, late_cost, is_due}
@@ -31,17 +31,17 @@ use Rattle.heco_circuit.specs.CircuitFormat.{plan}
 use Rattle.heco_circuit.specs.Circuits.{IsCircuit}
 use Rattle.heco_circuit.specs.Needs.{turns_by}
 use Rattle.heco_circuit.specs.Plans.{Plan, shape_of}
+use Rattle.heco_circuit.proofs.Lengths.{length-fresh_bounds}
 use Rattle.heco_place.specs.declared.carrier.Carrier.{Carrier}
 use Rattle.heco_thrift.specs.Placed.{IsPlaced}
 use Rattle.heco_written.specs.WrittenForm.{vectors_of}
 use Rattle.heco_thrift.specs.Thrift.{bounds_of, gate_bounds, IsLow, IsThrifty}
-use Rattle.heco_place.specs.Cells.{cell_over, cells_of}
+use Rattle.heco_place.specs.inside.Cells.{cell_over, cells_of}
 use Rattle.heco_place.specs.Fitting.{terms_of, AllHomesWithin, AreHomes}
 use Rattle.heco_place.specs.Kinds.{kinds, AreFewer}
 use Rattle.heco_place.specs.NodeHomes.{homes_over}
-use Rattle.heco_place.specs.Placing.{term_at, IsChosen}
+use Rattle.heco_place.specs.inside.Placing.{term_at, IsChosen}
 use Rattle.heco_place.specs.Refusals.{NoneDeep}
-use Rattle.heco_place.proofs.Carrying.{length-fresh_bounds}
 use Rattle.heco_place.proofs.DueNodes.{relin_product}
 use Rattle.heco_place.proofs.LowTerms.{below_greatest, quiet_greatest}
 use Rattle.heco_place.proofs.KindCounts.{forms_differ}

@@ -8,7 +8,7 @@ use Rattle.std.proofs.lemmas.List.Concat.{flat_map-append}
 use native.Mathlib.Decide.{dec_lt}
 use Rattle.heco_nums.specs.Presets.{modulus_of, slots_of}
 use Rattle.heco_nums.specs.declared.shape.Shape.{Shape}
-use Rattle.heco_fields.specs.Runs.{all_along}
+use Rattle.heco_nums.specs.Runs.{all_along}
 use Rattle.heco_written.specs.VectorTerm.{VectorTerm, Input}
 use Rattle.heco_written.specs.Cost.{is_long, is_due}
 use Rattle.heco_written.specs.Needs.{is_product}
@@ -25,10 +25,10 @@ use Rattle.heco_circuit.specs.Plans.{input_parts}
 use Rattle.heco_place.specs.declared.carrier.Carrier.{Carrier}
 use Rattle.heco_place.specs.declared.way.Way.{Way}
 use Rattle.heco_place.specs.declared.way.Way.TheVariants.{Wire, Gate as ByGate}
-use Rattle.heco_place.specs.Carried.{Carries, Gives, share}
-use Rattle.heco_place.specs.Ways.{nowhere, way_of, relinearised, placed_by}
+use Rattle.heco_place.specs.inside.Carried.{Carries, Gives, share}
+use Rattle.heco_place.specs.inside.Ways.{nowhere, way_of, relinearised, placed_by}
 use Rattle.heco_place.specs.Kinds.{kind, kinds, relinearisation_where, is_relinearised}
-use Rattle.heco_place.specs.Placing.{due_at, term_at, is_low, IsCarrier, IsPlan, Placing}
+use Rattle.heco_place.specs.inside.Placing.{due_at, term_at, is_low, IsCarrier, IsPlan, Placing}
 use Rattle.heco_place.proofs.Bools.{left}
 use Rattle.heco_place.proofs.Growing.{all_along_push}
 use Rattle.heco_place.proofs.Carrying.{carries_input, carries_on, carries_new}

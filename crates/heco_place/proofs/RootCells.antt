@@ -17,19 +17,20 @@ use Rattle.heco_ir.specs.Values.{numbers}
 use Rattle.heco_ir.specs.Terms.{vector_terms}
 use Rattle.heco_ir.proofs.Built.{slice_get_below}
 use Rattle.heco_circuit.specs.declared.gate.Gate.{Gate}
-use Rattle.heco_fields.specs.Runs.{all_along}
+use Rattle.heco_nums.specs.Runs.{all_along}
 use Rattle.heco_circuit.specs.CircuitFormat.{plan}
 use Rattle.heco_circuit.specs.Plans.{Plan, is_cell, is_input, push}
 use Rattle.heco_circuit.specs.declared.gate.Output.{Output}
 use Rattle.heco_thrift.specs.Homes.{HoldsHome, world_of}
 use Rattle.heco_thrift.specs.Thrift.{IsWithin}
 use Rattle.heco_place.specs.declared.carrier.Carrier.{Carrier}
-use Rattle.heco_place.specs.Carried.{AreRows, all_parts, all_slots, Carries}
-use Rattle.heco_place.specs.Cells.{root_at, cell_over}
-use Rattle.heco_place.specs.Fitting.{terms_of, HomeWithin, AllHomesWithin, HomeFits}
+use Rattle.heco_place.specs.inside.Carried.{AreRows, all_parts, all_slots, Carries}
+use Rattle.heco_place.specs.inside.Cells.{root_at, cell_over}
+use Rattle.heco_place.specs.Fitting.{terms_of, HomeWithin, AllHomesWithin}
+use Rattle.heco_ir.specs.Homes.{HomeFits}
 use Rattle.heco_place.specs.NodeHomes.{written_home, homes_over}
-use Rattle.heco_place.specs.Placing.{due_at, IsChosen}
-use Rattle.heco_place.specs.Ways.{carrier_at}
+use Rattle.heco_place.specs.inside.Placing.{due_at, IsChosen}
+use Rattle.heco_place.specs.inside.Ways.{carrier_at}
 use Rattle.heco_place.proofs.Bools.{both, or_right}
 use Rattle.heco_place.proofs.DeepHomes.{term_of_root}
 use Rattle.heco_place.proofs.GateGives.{has_its_parts, between}

@@ -6,12 +6,12 @@ use Rattle.std.proofs.lemmas.Bool.{and_parts, leb-true, ltb-true}
 use Rattle.std.proofs.lemmas.List.Elements.{All-head, All-tail, All-nil, All-cons}
 use Rattle.heco_nums.specs.Presets.{modulus_of, slots_of}
 use Rattle.heco_nums.specs.declared.shape.Shape.{Shape}
-use Rattle.heco_fields.specs.Runs.{all_along}
+use Rattle.heco_nums.specs.Runs.{all_along}
 use Rattle.heco_circuit.specs.Plans.{push, is_input, is_name}
 use Rattle.heco_circuit.specs.Validity.{is_between}
 use Rattle.heco_texts.specs.Answers.{HaveFit}
-use Rattle.heco_thrift.proofs.HeldValues.{modulus_pos}
-use Rattle.heco_place.specs.Carried.{AreRows}
+use Rattle.heco_nums.proofs.PresetCases.{modulus_pos}
+use Rattle.heco_place.specs.inside.Carried.{AreRows}
 
 abbrev AreShort : ℕ → List Shape → Type 0
 AreShort slots shapes = All (λ (s : Shape). s.len ≤ slots) shapes

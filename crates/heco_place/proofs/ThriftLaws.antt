@@ -5,7 +5,7 @@ use Rattle.std.proofs.lemmas.Bool.{leb-true, ltb-true}
 use Rattle.std.proofs.lemmas.Bool.Decides.{nat_tests}
 use Rattle.std.proofs.lemmas.List.{length_push, get_or_at, take_all}
 use Rattle.std.proofs.lemmas.List.Sums.{sum_by_push}
-use Rattle.heco_fields.specs.Runs.{along, all_along}
+use Rattle.heco_nums.specs.Runs.{along, all_along}
 use Rattle.heco_nums.specs.declared.shape.Shape.{Shape}
 use Rattle.heco_noise.specs.Rows.{passes, IsQuiet}
 use Rattle.heco_written.specs.VectorTerm.{VectorTerm}
@@ -22,7 +22,7 @@ use Rattle.heco_circuit.specs.Needs.{is_relin, turns_by as gate_turns_by}
 use Rattle.heco_place.specs.declared.carrier.Carrier.{Carrier}
 use Rattle.heco_thrift.specs.Thrift.{is_product as is_product_gate, is_weighing}
 use Rattle.heco_place.specs.Kinds.{is_relinearised, kind, kinds}
-use Rattle.heco_place.specs.Placing.{is_low, IsChosen}
+use Rattle.heco_place.specs.inside.Placing.{is_low, IsChosen}
 use Rattle.heco_place.proofs.Bools.{left, right}
 use Rattle.heco_place.proofs.Growing.{along-keeps}
 use Rattle.heco_place.proofs.KindCounts.{gate_count, relin_count_is, mul_count_is, any_relin_is, any_turn_is, forms_differ, none_weighs as no_weighing}

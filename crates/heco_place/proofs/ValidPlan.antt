@@ -9,19 +9,18 @@ use Rattle.std.proofs.lemmas.List.Sums.{sum_by-cons}
 use Rattle.heco_nums.specs.Presets.{modulus_of, slots_of}
 use Rattle.heco_nums.specs.Words.{is_word}
 use Rattle.heco_nums.specs.declared.shape.Shape.{Shape}
-use Rattle.heco_fields.specs.Runs.{along, all_along}
+use Rattle.heco_nums.specs.Runs.{along, all_along}
 use Rattle.heco_fields.specs.Formats.{versioned_text}
 use Rattle.heco_circuit.specs.declared.gate.Cell.{Cell}
-use Rattle.heco_circuit.specs.declared.gate.Cell.TheVariants.{Number, Slot}
 use Rattle.heco_circuit.specs.declared.gate.Gate.{Gate}
-use Rattle.heco_circuit.specs.declared.gate.Gate.TheVariants.{Neg, Add, Sub, Mul, Relin, Scale, Shift, Turn, Weigh}
 use Rattle.heco_circuit.specs.declared.gate.Output.{Output}
 use Rattle.heco_circuit.specs.Validity.{is_between, is_gate, with_gate}
 use Rattle.heco_circuit.specs.Plans.{names_input, names_output, is_name, is_input, is_cell, is_output, push, input_parts, is_formed, shape_of}
 use Rattle.heco_circuit.specs.GateFormat.{gate_text}
 use Rattle.heco_circuit.specs.CircuitFormat.{plan, header_of, name_text, input_text, cell_text, output_text, inputs_text, gates_text, outputs_text, circuit_text}
 use Rattle.heco_circuit.specs.Circuits.{is_short, most}
-use Rattle.heco_place.specs.Cells.{cells_of}
+use Rattle.heco_circuit.proofs.Lengths.{gates_short, cells_short, length-name_text}
+use Rattle.heco_place.specs.inside.Cells.{cells_of}
 use Rattle.heco_place.proofs.Bools.{both, left, right}
 use Rattle.heco_place.proofs.KindCounts.{any-map}
 
@@ -71,6 +70,22 @@ pub record Ports (id : ℕ) (inputs shapes : List Shape) : Type 0 where
   pub inputs_ok : all_along (is_input (slots_of id)) push [] inputs ≡ true
   pub shapes_ok : all_along (is_output_shape inputs) push [] shapes ≡ true
 
+-- the texts of an input and of an output
+pub input_short : (s : Shape) → length (input_text s) ≡ 6 + length s.name
+input_short s = let two : length (to_be_bytes w16 s.len) ≡ 2 = refl in omega (arith, length-append (name_text s.name) (to_be_bytes w16 s.len), length-name_text s.name, two)
+
+pub output_short : (o : Output) → length (output_text o) ≤ 6 + length o.name + 7 * length o.cells
+output_short o =
+    let two : length (to_be_bytes w16 (length o.cells)) ≡ 2 = refl in
+    omega (
+      arith,
+      length-append (name_text o.name ++ to_be_bytes w16 (length o.cells)) (flat_map cell_text o.cells),
+      length-append (name_text o.name) (to_be_bytes w16 (length o.cells)),
+      length-name_text o.name,
+      two,
+      cells_short o.cells,
+    )
+
 module _ (id : ℕ) (inputs shapes : List Shape) (gates : List Gate) (outputs : List Output) (p : Ports id inputs shapes) (are : map shape_of outputs ≡ shapes)
     (few : length gates ≤ 20447232) where
   count : length outputs ≡ length shapes
@@ -87,52 +102,11 @@ module _ (id : ℕ) (inputs shapes : List Shape) (gates : List Gate) (outputs : 
 
   -- ---- short
 
-  gate_short : (g : Gate) → length (gate_text g) ≤ 9
-  gate_short (Neg a) = omega arith
-  gate_short (Add a b) = omega arith
-  gate_short (Sub a b) = omega arith
-  gate_short (Mul a b) = omega arith
-  gate_short (Relin a) = omega arith
-  gate_short (Scale c a) = omega arith
-  gate_short (Shift c a) = omega arith
-  gate_short (Turn r a) = omega arith
-  gate_short (Weigh v a) = omega arith
-
-  gates_short : (gs : List Gate) → length (flat_map gate_text gs) ≤ 9 * length gs
-  gates_short [] = omega arith
-  gates_short (g ∷ gs) = omega (arith, length-append (gate_text g) (flat_map gate_text gs), gate_short g, gates_short gs)
-
-  cell_short : (c : Cell) → length (cell_text c) ≤ 7
-  cell_short (Number n) = omega arith
-  cell_short (Slot w s) = omega arith
-
-  cells_short : (cs : List Cell) → length (flat_map cell_text cs) ≤ 7 * length cs
-  cells_short [] = omega arith
-  cells_short (c ∷ cs) = omega (arith, length-append (cell_text c) (flat_map cell_text cs), cell_short c, cells_short cs)
-
-  length-name_text : (name : List ℕ) → length (name_text name) ≡ 4 + length name
-  length-name_text name = length-append (to_be_bytes w32 (length name)) name
-
-  input_short : (s : Shape) → length s.name ≤ 2 ^ 20 → length (input_text s) ≤ 1048582
-  input_short s le = let two : length (to_be_bytes w16 s.len) ≡ 2 = refl in omega (arith, length-append (name_text s.name) (to_be_bytes w16 s.len), length-name_text s.name, two)
-
   inputs_short : (slots : ℕ) (earlier xs : List Shape) → all_along (is_input slots) push earlier xs ≡ true → length (flat_map input_text xs) ≤ 1048582 * length xs
   inputs_short slots earlier [] e = omega arith
   inputs_short slots earlier (x ∷ xs) e =
       let le : length x.name ≤ 2 ^ 20 = high 1 (2 ^ 20) (length x.name) (left _ _ (left (is_name earlier [] x.name) _ (left (is_input slots earlier x) _ e))) in
-      omega (arith, length-append (input_text x) (flat_map input_text xs), input_short x le, inputs_short slots (push earlier x) xs (right (is_input slots earlier x) _ e))
-
-  output_short : (o : Output) → length o.name ≤ 2 ^ 20 → length o.cells ≤ 4096 → length (output_text o) ≤ 1077254
-  output_short o le le2 =
-      let two : length (to_be_bytes w16 (length o.cells)) ≡ 2 = refl in
-      omega (
-        arith,
-        length-append (name_text o.name ++ to_be_bytes w16 (length o.cells)) (flat_map cell_text o.cells),
-        length-append (name_text o.name) (to_be_bytes w16 (length o.cells)),
-        length-name_text o.name,
-        two,
-        cells_short o.cells,
-      )
+      omega (arith, length-append (input_text x) (flat_map input_text xs), le, input_short x, inputs_short slots (push earlier x) xs (right (is_input slots earlier x) _ e))
 
   outputs_short : (earlier : List Shape) (os : List Output) → all_along (is_output_shape inputs) push earlier (map shape_of os) ≡ true → length (flat_map output_text os) ≤ 1077254 * length os
   outputs_short earlier [] e = omega arith
@@ -141,7 +115,7 @@ module _ (id : ℕ) (inputs shapes : List Shape) (gates : List Gate) (outputs : 
       let le : length o.name ≤ 2 ^ 20 = high 1 (2 ^ 20) (length o.name) (left _ _ (left _ (is_between 1 4096 (length o.cells)) here)) in
       let le2 : length o.cells ≤ 4096 =
       high 1 4096 (length o.cells) (right (is_between 1 (2 ^ 20) (length o.name) && (is_word o.name && not (list_any (names_input o.name) inputs) && not (list_any (names_input o.name) earlier))) _ here) in
-      omega (arith, length-append (output_text o) (flat_map output_text os), output_short o le le2, outputs_short (push earlier (shape_of o)) os (right (is_output_shape inputs earlier (shape_of o)) _ e))
+      omega (arith, length-append (output_text o) (flat_map output_text os), le, le2, output_short o, outputs_short (push earlier (shape_of o)) os (right (is_output_shape inputs earlier (shape_of o)) _ e))
 
   text_short : length (circuit_text (plan id inputs gates outputs)) ≤ 536870911
   text_short =

@@ -1,11 +1,6 @@
-pub mod Carried
-pub mod Depths
 pub mod Fitting
-pub mod Ways
-pub mod Placing
 pub mod Refusals
-pub mod Dues
 pub mod Kinds
 pub mod NodeHomes
-pub mod Cells
 pub mod Ports
+pub mod inside

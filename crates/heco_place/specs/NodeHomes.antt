@@ -3,7 +3,7 @@ use Rattle.std.specs.Prelude.{List, map, slice_index_or}
 use Rattle.heco_ir.specs.declared.home.Home.{Home}
 use Rattle.heco_ir.specs.declared.home.Home.TheVariants.{Number, At}
 use Rattle.heco_written.specs.VectorTerm.{VectorTerm, Input}
-use Rattle.heco_written.specs.WrittenForm.{Home as WrittenHome, Known, At as AtPlace}
+use Rattle.heco_written.specs.WrittenForm.{WrittenHome, Known, At as AtPlace}
 
 -- the roots' terms being vs, a number stays, and a slot of a root is that slot of its vector
 abbrev pub written_home : List VectorTerm → Home → WrittenHome

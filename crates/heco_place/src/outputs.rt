@@ -1,6 +1,6 @@
 ghost use Rattle.std.specs.Prelude.{◌≡◌, ℕ, length, map, IfOk};
 ghost use Rattle.std.specs.List.{sum_by, flat_map};
-ghost use Rattle.heco_place.specs.Cells.{cell_over, cells_of};
+ghost use Rattle.heco_place.specs.inside.Cells.{cell_over, cells_of};
 ghost use Rattle.heco_place.specs.Fitting.{HomeWithin, AllHomesWithin};
 ghost use Rattle.heco_circuit.specs.Plans.{shape_of};
 

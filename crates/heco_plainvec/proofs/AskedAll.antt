@@ -3,9 +3,9 @@ use Rattle.std.proofs.Common.{◌≡◌, refl, ap, ℕ, zero, suc, ◌-◌, ◌<
 use Rattle.std.specs.Prelude.{All, Some, None, slice_get}
 use Rattle.std.specs.List.{list_all, range_with_len}
 use Rattle.std.proofs.lemmas.Bool.{eq-eqb, le-leb, leb-true}
-use Rattle.std.proofs.lemmas.Bool.Decides.{nat_tests}
 use Rattle.std.proofs.lemmas.List.FromFn.{length-map-range_with_len}
 use Rattle.heco_nums.specs.Presets.{modulus_of, slots_of}
+use Rattle.heco_nums.proofs.PresetCases.{slots_pos, modulus_pos}
 use Rattle.heco_fields.proofs.Bools.{both_true, and_true}
 use Rattle.heco_circuit.specs.declared.gate.Cell.{Cell}
 use Rattle.heco_circuit.specs.declared.gate.Cell.TheVariants.{Number, Slot}
@@ -18,18 +18,12 @@ use Rattle.heco_thrift.specs.Homes.{all_cells}
 use Rattle.heco_plainvec.specs.declared.multiple.Multiple.{Multiple}
 use Rattle.heco_plainvec.specs.declared.multiple.Asked.{Asked}
 use Rattle.heco_plainvec.specs.Gathering.{multiples, asked_at, asked_by, asked, at_slot, vector_of}
-use Rattle.heco_plainvec.specs.Finding.{IsAsk}
+use Rattle.heco_plainvec.specs.inside.Finding.{IsAsk}
 use Rattle.heco_plainvec.proofs.Each.{Each, each_flat, each_found, each_all}
 use Rattle.heco_plainvec.proofs.Leaders.{IsMultiple, multiple_is}
 use Rattle.heco_plainvec.proofs.Sweep.{may_stand}
 use Rattle.heco_plainvec.proofs.Whole.{Valid}
-use Rattle.heco_plainvec.proofs.Outputs.{cells_stand}
-
-slots_pos : (id : ℕ) → 0 < slots_of id
-slots_pos id = grind (arith, nat_tests)
-
-modulus_pos : (id : ℕ) → 0 < modulus_of id
-modulus_pos id = grind (arith, nat_tests)
+use Rattle.heco_rewrites.proofs.Outputs.{cells_stand}
 
 -- ---- the constants
 gate_at : (c : Plan) (parts : List ℕ) (gates : List Gate) (k by a : ℕ) → may_stand c (length c.vectors) parts gates ≡ true → slice_get gates k ≡ Some (Scale by a) → is_between 1 (modulus_of c.preset - 1) by ≡ true

@@ -11,7 +11,7 @@ use Rattle.heco_plainvec.specs.declared.multiple.Multiple.{Multiple}
 use Rattle.heco_plainvec.specs.declared.multiple.Asked.{Asked}
 use Rattle.heco_plainvec.specs.declared.multiple.Scaled.{Scaled}
 use Rattle.heco_plainvec.specs.Gathering.{cell_only, multiple_where, multiple_of, multiples, asked_at}
-use Rattle.heco_plainvec.specs.Finding.{scaled_where, scaled_by_maker, scaled_at}
+use Rattle.heco_plainvec.specs.inside.Finding.{scaled_where, scaled_by_maker, scaled_at}
 use Rattle.heco_plainvec.proofs.Leaders.{own_number}
 
 -- of the wire a, at this slot

@@ -8,18 +8,18 @@ use Rattle.std.proofs.lemmas.List.{length-take, length-map, map-append}
 use Rattle.std.proofs.lemmas.List.Elements.{filter-append}
 use Rattle.heco_thrift.specs.Thrift.{bounds_of}
 use Rattle.std.specs.Prelude.{slice_index}
-use Rattle.heco_fields.specs.Runs.{along}
+use Rattle.heco_nums.specs.Runs.{along}
 use Rattle.heco_circuit.specs.declared.gate.Gate.{Gate}
 use Rattle.heco_circuit.specs.Bounds.{bound_of, with_bound, weights_of, fresh_bounds}
 use Rattle.heco_circuit.specs.Plans.{Plan}
+use Rattle.heco_circuit.proofs.Lengths.{length-fresh_bounds}
 use Rattle.heco_rewrites.specs.Needed.{has}
 use Rattle.heco_plainvec.specs.declared.multiple.Asked.{Asked}
 use Rattle.heco_plainvec.specs.declared.multiple.Multiple.{Multiple}
 use Rattle.heco_plainvec.specs.Gathering.{multiples, asked, vector, serves, chosen, most_vectors}
 use Rattle.heco_plainvec.specs.Gathered.{first_multiple, vector_number}
-use Rattle.heco_plainvec.specs.Finding.{product_by, where_room, numbered_product, product_at}
+use Rattle.heco_plainvec.specs.inside.Finding.{product_by, where_room, numbered_product, product_at}
 use Rattle.heco_plainvec.proofs.Leaders.{chosen_serves}
-use Rattle.heco_plainvec.proofs.Whole.{length-fresh_bounds}
 
 -- the wires below a for which a product serves, and those of them that are chosen
 abbrev pub served_below : Plan → ℕ → List ℕ

@@ -9,7 +9,7 @@ use Rattle.heco_nums.specs.Presets.{slots_of}
 use Rattle.heco_fields.proofs.Bools.{both_true}
 use Rattle.heco_plainvec.specs.declared.multiple.Asked.{Asked}
 use Rattle.heco_plainvec.specs.Gathering.{differs, agree, at_slot, vector_of}
-use Rattle.heco_plainvec.specs.Finding.{IsAsk}
+use Rattle.heco_plainvec.specs.inside.Finding.{IsAsk}
 
 -- constants of multiples
 abbrev pub AreConstants : List Asked → Type 0

@@ -1,21 +1,17 @@
 -- What gathering keeps of a circuit, together.
 use Rattle.std.proofs.Common.{◌≡◌, refl, ℕ, List, [], ◌∷◌, map}
-use Rattle.std.proofs.lemmas.List.{length-map}
 use Rattle.heco_circuit.specs.declared.gate.Cell.{Cell}
 use Rattle.heco_circuit.specs.declared.gate.Cell.TheVariants.{Number, Slot}
 use Rattle.heco_circuit.specs.declared.gate.Output.{Output}
 use Rattle.heco_circuit.specs.Circuits.{IsCircuit}
-use Rattle.heco_circuit.specs.Plans.{Plan, shape_of}
+use Rattle.heco_circuit.specs.Plans.{Plan}
 use Rattle.heco_thrift.specs.Homes.{is_number_cell}
 use Rattle.heco_rewrites.specs.Wires.{cell_over, output_over}
+use Rattle.heco_rewrites.proofs.Outputs.{same_shapes}
 use Rattle.heco_plainvec.specs.Gathered.{name, gathered}
 use Rattle.heco_plainvec.specs.Kept.{KeepsTheRest}
 use Rattle.heco_plainvec.proofs.Counts.{same_relin, same_turns, same_relinearisations, same_products, fewer_gates}
 use Rattle.heco_plainvec.proofs.Meaning.{same_bound}
-
-same_shapes : (f : ℕ → ℕ) (os : List Output) → map shape_of (map (output_over f) os) ≡ map shape_of os
-same_shapes f [] = refl
-same_shapes f (o ∷ os) = rw (length-map o.cells (cell_over f), same_shapes f os) refl
 
 same_numbers : (f : ℕ → ℕ) (xs : List Cell) → map is_number_cell (map (cell_over f) xs) ≡ map is_number_cell xs
 same_numbers f [] = refl

@@ -3,7 +3,7 @@ use Rattle.std.proofs.Common.{◌≡◌, ℕ, ◌<◌, List, [], ◌∷◌, leng
 use Rattle.std.specs.Prelude.{slice_index, Contains}
 use Rattle.std.proofs.lemmas.List.{get_or_append_left, get_or_push}
 use Rattle.heco_nums.specs.Presets.{modulus_of, slots_of}
-use Rattle.heco_fields.specs.Runs.{along}
+use Rattle.heco_nums.specs.Runs.{along}
 use Rattle.heco_circuit.specs.declared.gate.Gate.{Gate}
 use Rattle.heco_circuit.specs.Validity.{parts_of, is_gate}
 use Rattle.heco_circuit.specs.Bounds.{bound_of, weights_of}

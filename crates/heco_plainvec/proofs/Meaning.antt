@@ -3,6 +3,7 @@ use Rattle.std.proofs.Common.{◌≡◌, ◌∙◌, sym, ap, ℕ, ◌+◌, ◌<�
 use Rattle.std.specs.Prelude.{None, slice_index}
 use Rattle.std.proofs.lemmas.List.{length-map}
 use Rattle.heco_nums.specs.Presets.{modulus_of, slots_of}
+use Rattle.heco_nums.proofs.PresetCases.{slots_pos}
 use Rattle.heco_circuit.specs.declared.gate.Output.{Output}
 use Rattle.heco_circuit.specs.Circuits.{IsCircuit}
 use Rattle.heco_circuit.specs.Plans.{Plan, wire_parts, is_cell}
@@ -10,12 +11,13 @@ use Rattle.heco_meaning.specs.Meanings.{meaning_of, output_values}
 use Rattle.heco_thrift.specs.Thrift.{bounds_of}
 use Rattle.heco_rewrites.specs.Wires.{first_wires, output_over}
 use Rattle.heco_rewrites.proofs.Along.{along_parts, along_slots, along_bounds}
+use Rattle.heco_rewrites.proofs.Outputs.{cells_stand, outputs_mean}
 use Rattle.heco_plainvec.specs.Gathered.{source, name, gathered_gates, gathered_vectors, gathered}
 use Rattle.heco_plainvec.proofs.Numbered.{get_flat}
 use Rattle.heco_plainvec.proofs.Known.{bound_known}
 use Rattle.heco_plainvec.proofs.Whole.{Valid, valid, all_wires, new_wires, whole}
-use Rattle.heco_plainvec.proofs.Outputs.{cell_means, cells_stand, outputs_mean}
-use Rattle.heco_plainvec.proofs.Valid.{slots_pos, no_rows}
+use Rattle.heco_plainvec.proofs.Outputs.{cell_means}
+use Rattle.heco_plainvec.proofs.Valid.{no_rows}
 
 pub same_meaning : (c : Plan) (rows : List (List ℕ)) → IsCircuit c → length rows ≡ length c.inputs → meaning_of (gathered c) rows ≡ meaning_of c rows
 unfolding gathered meaning_of

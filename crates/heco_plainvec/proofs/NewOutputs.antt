@@ -4,7 +4,7 @@ use Rattle.std.specs.Prelude.{Some, slice_get, slice_index}
 use Rattle.std.proofs.lemmas.Bool.{ltb-true}
 use Rattle.heco_nums.specs.declared.shape.Shape.{Shape}
 use Rattle.heco_nums.specs.Presets.{modulus_of, slots_of}
-use Rattle.heco_fields.specs.Runs.{along}
+use Rattle.heco_nums.specs.Runs.{along}
 use Rattle.heco_fields.proofs.Bools.{both_true}
 use Rattle.heco_circuit.specs.declared.gate.Cell.{Cell}
 use Rattle.heco_circuit.specs.declared.gate.Cell.TheVariants.{Number, Slot}
@@ -13,12 +13,13 @@ use Rattle.heco_circuit.specs.declared.gate.Output.{Output}
 use Rattle.heco_circuit.specs.CircuitFormat.{plan_with}
 use Rattle.heco_circuit.specs.Plans.{Plan, input_parts, wire_parts, is_cell}
 use Rattle.heco_circuit.specs.Validity.{parts_of, with_gate, is_wire, has_parts, is_between}
+use Rattle.heco_circuit.proofs.Lengths.{length-input_parts}
 use Rattle.heco_rewrites.specs.Wires.{cell_over, output_over}
+use Rattle.heco_rewrites.proofs.Outputs.{cells_stand}
 use Rattle.heco_plainvec.specs.Gathering.{wires}
 use Rattle.heco_plainvec.specs.Gathered.{name, gathered_gates, gathered_vectors, gathered}
 use Rattle.heco_plainvec.proofs.Rows.{each_at}
-use Rattle.heco_plainvec.proofs.Outputs.{cells_stand}
-use Rattle.heco_plainvec.proofs.Whole.{Valid, length-input_parts}
+use Rattle.heco_plainvec.proofs.Whole.{Valid}
 
 length-parts : (c : Plan) → length (wire_parts c) ≡ length c.inputs + length c.gates
 length-parts c = length-more (input_parts c.inputs) c.gates ∙ ap (λ n. n + length c.gates) (length-input_parts c.inputs)

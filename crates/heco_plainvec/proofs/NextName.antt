@@ -1,5 +1,5 @@
 -- The names and the gates with what comes of one gate more.
-use Rattle.std.proofs.Common.{◌≡◌, ℕ, zero, suc, ◌+◌, ◌<◌, ◌≤◌, List, [], ◌∷◌, ◌++◌, length, map, take, ap, sym, ◌∙◌, arith, get_or, length-append, subst}
+use Rattle.std.proofs.Common.{◌≡◌, ℕ, ◌+◌, ◌<◌, ◌≤◌, List, [], ◌∷◌, ◌++◌, length, map, take, ap, sym, ◌∙◌, arith, get_or, length-append, subst}
 use Rattle.std.specs.Prelude.{slice_index, filter_map}
 use Rattle.std.specs.List.{range_with_len, enumerate_from, cons_option}
 use Rattle.std.proofs.lemmas.Bool.{eqb-true, eq-eqb, ne_eqb}
@@ -10,8 +10,8 @@ use Rattle.heco_circuit.specs.declared.gate.Gate.TheVariants.{Neg}
 use Rattle.heco_circuit.specs.Plans.{Plan}
 use Rattle.heco_plainvec.specs.declared.rewriting.Image.{Image}
 use Rattle.heco_plainvec.specs.declared.rewriting.Image.TheVariants.{Stands, Goes}
-use Rattle.heco_plainvec.specs.Gathered.{leader, place, name, gathered_gate}
-use Rattle.heco_plainvec.specs.Finding.{IsImage, standing, new_name}
+use Rattle.heco_plainvec.specs.Gathered.{leader, staying_below, name, gathered_gate}
+use Rattle.heco_plainvec.specs.inside.Finding.{IsImage, standing, new_name}
 use Rattle.heco_plainvec.proofs.Numbered.{numbered_more}
 use Rattle.heco_plainvec.proofs.Leaders.{leader_stays, input_stays}
 use Rattle.heco_plainvec.proofs.Places.{place_kept, place_gone, place_inputs, name_itself}
@@ -23,17 +23,10 @@ gathered_front c i = filter_map (gathered_gate c) (enumerate_from (length c.inpu
 pub record IsFront (c : Plan) (i : ℕ) (names : List ℕ) (gates : List Gate) : Type 0 where
   pub names_are : names ≡ map (name c) (range_with_len 0 (length c.inputs + i))
   pub gates_are : gates ≡ gathered_front c i
-  pub count : length c.inputs + length gates ≡ place c (length c.inputs + i)
+  pub count : length c.inputs + length gates ≡ staying_below c (length c.inputs + i)
   pub few : length gates ≤ i
 
 -- ---- the inputs
-pub range_more : (n : ℕ) → range_with_len 0 (n + 1) ≡ range_with_len 0 n ++ n ∷ []
-range_more n = more 0 n n (omega arith)
-  where
-    more : (a n j : ℕ) → a + n ≡ j → range_with_len a (n + 1) ≡ range_with_len a n ++ j ∷ []
-    more a zero j e = let z : a ≡ j = omega (arith, e) in ap (λ k. k ∷ []) z
-    more a (suc n) j e = let s : suc n + 1 ≡ suc (n + 1) = omega arith in ap (range_with_len a) s ∙ ap (λ xs. a ∷ xs) (more (a + 1) n j (omega (arith, e)))
-
 input_names : (c : Plan) → range_with_len 0 (length c.inputs) ≡ map (name c) (range_with_len 0 (length c.inputs))
 input_names c =
     let n : ℕ = length c.inputs in
@@ -52,7 +45,7 @@ front_first c names gates n g =
     record {
       names_are = n ∙ input_names c ∙ ap (λ k. map (name c) (range_with_len 0 k)) (sym z);
       gates_are = g;
-      count = let q = ap (place c) z in omega (arith, l, p, q);
+      count = let q = ap (staying_below c) z in omega (arith, l, p, q);
       few = omega (arith, l);
     }
 
@@ -61,13 +54,13 @@ standing_is : (c : Plan) (wire : ℕ) (g : Gate) (m : Image) → IsImage c wire 
 standing_is c wire g (Stands h) i = sym i.0
 standing_is c wire g (Goes first) i = sym i.0
 
-next_is : (c : Plan) (wire next : ℕ) (names : List ℕ) (g : Gate) (m : Image) → IsImage c wire g m → names ≡ map (name c) (range_with_len 0 wire) → next ≡ place c wire → new_name names next m ≡ name c wire
-next_is c wire next names g (Stands h) i n e = e ∙ ap (place c) (sym i.1)
+next_is : (c : Plan) (wire next : ℕ) (names : List ℕ) (g : Gate) (m : Image) → IsImage c wire g m → names ≡ map (name c) (range_with_len 0 wire) → next ≡ staying_below c wire → new_name names next m ≡ name c wire
+next_is c wire next names g (Stands h) i n e = e ∙ ap (staying_below c) (sym i.1)
 next_is c wire next names g (Goes first) i n e =
     ap (λ ns. slice_index ns first) n ∙ get_or-map-range_with_len (name c) 0 wire first first 0 i.2 (omega arith)
-    ∙ ap (name c) (sym i.1) ∙ ap (place c) (eqb-true (leader c (leader c wire)) (leader c wire) (leader_stays c wire))
+    ∙ ap (name c) (sym i.1) ∙ ap (staying_below c) (eqb-true (leader c (leader c wire)) (leader c wire) (leader_stays c wire))
 
-pub next_place : (c : Plan) (wire : ℕ) (g : Gate) (m : Image) → IsImage c wire g m → place c wire + length (cons_option (standing m) []) ≡ place c (wire + 1)
+pub next_place : (c : Plan) (wire : ℕ) (g : Gate) (m : Image) → IsImage c wire g m → staying_below c wire + length (cons_option (standing m) []) ≡ staying_below c (wire + 1)
 next_place c wire g (Stands h) i = sym (place_kept c wire (eq-eqb (leader c wire) wire i.1))
 next_place c wire g (Goes first) i =
     let l = i.1 in
@@ -90,7 +83,7 @@ front_more c i wire next g m names new_names gates new_gates f l e w n im ns gs 
     let b = length-append gates (cons_option (standing m) []) in
     let p = next_place c u g m here in
     let k = f.count in
-    let q = ap (place c) s in
+    let q = ap (staying_below c) s in
     let few = f.few in
     let one = one_at_most m in
     record {

@@ -16,7 +16,7 @@ use Rattle.heco_rewrites.specs.Needed.{has}
 use Rattle.heco_rewrites.proofs.OtherNames.{first}
 use Rattle.heco_plainvec.specs.declared.multiple.Multiple.{Multiple}
 use Rattle.heco_plainvec.specs.Gathering.{cell_only, multiples, asked, agree, at_slot, vector, weighed_bound, serves, finds, chosen, wires, most_vectors}
-use Rattle.heco_plainvec.specs.Gathered.{source, stays, place, name, gate_where, vector_number, gathered_gate, gathered_gates, gathered_vectors, gathered}
+use Rattle.heco_plainvec.specs.Gathered.{source, stays, staying_below, name, gate_where, vector_number, gathered_gate, gathered_gates, gathered_vectors, gathered}
 use Rattle.heco_plainvec.proofs.Numbered.{get-length, get_is}
 use Rattle.heco_plainvec.proofs.Leaders.{IsMultiple, multiple_is, source_has, operand_stays, served}
 use Rattle.heco_plainvec.proofs.Places.{place_kept, place_gone, place_inputs, name_itself}
@@ -104,15 +104,15 @@ pub record IsFound (c : Plan) (i : ℕ) (h : Gate) : Type 0 where
   pub gate : Gate
   pub here : slice_get c.gates at ≡ Some gate
   pub image : gathered_gate c (length c.inputs + at, gate) ≡ Some h
-  pub place_is : place c (length c.inputs + at) ≡ length c.inputs + i
+  pub place_is : staying_below c (length c.inputs + at) ≡ length c.inputs + i
 
-found_from : (c : Plan) (k i base : ℕ) (gates : List Gate) (h : Gate) → ((j : ℕ) (g : Gate) → slice_get gates j ≡ Some g → slice_get c.gates (k + j) ≡ Some g) → place c (length c.inputs + k) ≡ length c.inputs + base
+found_from : (c : Plan) (k i base : ℕ) (gates : List Gate) (h : Gate) → ((j : ℕ) (g : Gate) → slice_get gates j ≡ Some g → slice_get c.gates (k + j) ≡ Some g) → staying_below c (length c.inputs + k) ≡ length c.inputs + base
     → slice_get (filter_map (gathered_gate c) (enumerate_from (length c.inputs + k) gates)) i ≡ Some h → IsFound c (base + i) h
 found_from c k i base [] h here p e = absurd cc
 found_from c k i base (g ∷ gates) h here p e =
     by_stays (stays c (length c.inputs + k)) refl i e
     (λ i base q r. let next : length c.inputs + k + 1 ≡ length c.inputs + (k + 1) = omega arith in
-    found_from c (k + 1) i base gates h (λ j y z. let s : k + suc j ≡ k + 1 + j = omega arith in rw s at (here (suc j) y z)) (ap (place c) (sym next) ∙ q)
+    found_from c (k + 1) i base gates h (λ j y z. let s : k + suc j ≡ k + 1 + j = omega arith in rw s at (here (suc j) y z)) (ap (staying_below c) (sym next) ∙ q)
     (subst (λ z. slice_get (filter_map (gathered_gate c) (enumerate_from z gates)) i ≡ Some h) next r))
   where
     u : ℕ
@@ -122,7 +122,7 @@ found_from c k i base (g ∷ gates) h here p e =
     here_at = let z : k + 0 ≡ k = omega arith in rw z at (here 0 g refl)
 
     Later : Type 0
-    Later = (i base : ℕ) → place c (u + 1) ≡ length c.inputs + base → slice_get (filter_map (gathered_gate c) (enumerate_from (u + 1) gates)) i ≡ Some h → IsFound c (base + i) h
+    Later = (i base : ℕ) → staying_below c (u + 1) ≡ length c.inputs + base → slice_get (filter_map (gathered_gate c) (enumerate_from (u + 1) gates)) i ≡ Some h → IsFound c (base + i) h
 
     by_stays : (b : Bool) → stays c u ≡ b → (i : ℕ) → slice_get (cons_option (cond b (Some (gate_where c g (source c u))) None) (filter_map (gathered_gate c) (enumerate_from (u + 1) gates))) i ≡ Some h → Later → IsFound c (base + i) h
     by_stays true t zero e later =
@@ -130,7 +130,7 @@ found_from c k i base (g ∷ gates) h here p e =
         rw z (record { at = k; gate = g; here = here_at; image = ap (λ b. cond b (Some (gate_where c g (source c u))) None) t ∙ e; place_is = p })
     by_stays true t (suc i) e later =
         let m = place_kept c u t in
-        let q : place c (u + 1) ≡ length c.inputs + (base + 1) = omega (arith, m, p) in
+        let q : staying_below c (u + 1) ≡ length c.inputs + (base + 1) = omega (arith, m, p) in
         let z : base + suc i ≡ base + 1 + i = omega arith in rw z (later i (base + 1) q e)
     by_stays false t i e later = later i base (place_gone c u t ∙ p) e
 
@@ -138,7 +138,7 @@ pub found_in : (c : Plan) (i : ℕ) (h : Gate) → slice_get (gathered_gates c) 
 found_in c i h e =
     let z : length c.inputs + 0 ≡ length c.inputs = omega arith in
     let y : 0 + i ≡ i = omega arith in
-    let p : place c (length c.inputs + 0) ≡ length c.inputs + 0 = place_inputs c (length c.inputs + 0) (omega arith) in
+    let p : staying_below c (length c.inputs + 0) ≡ length c.inputs + 0 = place_inputs c (length c.inputs + 0) (omega arith) in
     rw y at (found_from c 0 i 0 c.gates h (λ j g q. let w : 0 + j ≡ j = omega arith in rw w q) p (subst (λ u. slice_get (filter_map (gathered_gate c) (enumerate_from u c.gates)) i ≡ Some h) (sym z) e))
 
 gate_there : (c : Plan) (a : ℕ) (m : Multiple) (r : IsMultiple (gathered c) a m) → slice_get (gathered_gates c) r.place ≡ Some (Scale m.by a)

@@ -16,7 +16,7 @@ use Rattle.heco_plainvec.specs.declared.multiple.Product.{Product}
 use Rattle.heco_plainvec.specs.declared.multiple.Replacing.{Replacing}
 use Rattle.heco_plainvec.specs.Gathering.{is_read, cell_only, wires, chosen}
 use Rattle.heco_plainvec.specs.Gathered.{source_where, source, first_multiple, leader, name, vector_number, gate_where, gathered_gate}
-use Rattle.heco_plainvec.specs.Finding.{scaled_where, product_at, replacing_by, replacing_where, replacing}
+use Rattle.heco_plainvec.specs.inside.Finding.{scaled_where, product_at, replacing_by, replacing_where, replacing}
 use Rattle.heco_plainvec.proofs.Numbered.{maker_is}
 use Rattle.heco_plainvec.proofs.Rows.{each_at, only_at}
 use Rattle.heco_plainvec.proofs.Leaders.{leader_itself, leader_of, first_below}

@@ -1,25 +1,20 @@
 -- The elements of outputs: what they are, and that they may stand.
-use Rattle.std.proofs.Common.{◌≡◌, ℕ, zero, suc, ◌-◌, ◌*◌, ◌%◌, ◌^◌, ◌<◌, List, [], ◌∷◌, length, map, refl, ap, sym, ◌∙◌, arith, subst, Bool, true, cond, ◌&&◌, ◌||◌, not, eqb, leb}
+use Rattle.std.proofs.Common.{◌≡◌, ℕ, zero, suc, ◌-◌, ◌*◌, ◌%◌, ◌<◌, List, [], ◌∷◌, length, map, refl, ap, sym, ◌∙◌, arith, true, cond, eqb, leb}
 use Rattle.std.specs.Prelude.{Option, Some, None, slice_get, slice_index, filter_map}
-use Rattle.std.specs.List.{list_any, list_all, cons_option}
+use Rattle.std.specs.List.{cons_option}
 use Rattle.std.proofs.lemmas.Bool.{eq-eqb, ltb-true, lt-ltb, leb-true}
 use Rattle.std.proofs.Math.Nat.{zero-mod}
-use Rattle.std.proofs.lemmas.List.{map_push}
 use Rattle.std.proofs.lemmas.List.FromFn.{length-map-range_with_len}
 use Rattle.heco_nums.specs.Presets.{modulus_of, slots_of}
-use Rattle.heco_nums.specs.declared.shape.Shape.{Shape}
-use Rattle.heco_fields.specs.Runs.{all_along}
 use Rattle.heco_fields.proofs.Bools.{both_true, and_true}
 use Rattle.heco_circuit.specs.declared.gate.Cell.{Cell}
 use Rattle.heco_circuit.specs.declared.gate.Cell.TheVariants.{Number, Slot}
 use Rattle.heco_circuit.specs.declared.gate.Gate.TheVariants.{Scale}
-use Rattle.heco_circuit.specs.declared.gate.Output.{Output}
-use Rattle.heco_nums.specs.Words.{is_word}
-use Rattle.heco_circuit.specs.Plans.{Plan, is_cell, is_output, is_name, names_input, names_output, push}
+use Rattle.heco_circuit.specs.Plans.{Plan, is_cell}
 use Rattle.heco_circuit.specs.Validity.{is_between, has_parts, is_wire}
-use Rattle.heco_meaning.specs.Meanings.{wire_at, products, cell_value, output_values}
+use Rattle.heco_meaning.specs.Meanings.{wire_at, products, cell_value}
 use Rattle.heco_thrift.specs.Homes.{all_cells}
-use Rattle.heco_rewrites.specs.Wires.{Wires, cell_over, output_over}
+use Rattle.heco_rewrites.specs.Wires.{Wires, cell_over}
 use Rattle.heco_plainvec.specs.Gathering.{multiples, asked_at, asked_by, asked, at_slot, vector}
 use Rattle.heco_plainvec.specs.Gathered.{source, name}
 use Rattle.heco_plainvec.proofs.Numbered.{get_flat, maker_is}
@@ -104,63 +99,3 @@ cell_stands c old new u (Slot wire slot) s v =
     by_source : wire < u → (o : Option ℕ) → source c wire ≡ o → slice_index new.parts (name c wire) ≡ slice_index old.parts wire
     by_source below None q = ap parts_known (s.before.each wire below q)
     by_source below (Some a) q = let z : IsGone c old new wire a = s.before.gone wire a below q in z.parts ∙ sym z.parts_are
-
--- ---- all outputs
-all_get : {X : Type 0} (test : X → Bool) (xs : List X) (k : ℕ) (x : X) → list_all test xs ≡ true → slice_get xs k ≡ Some x → test x ≡ true
-all_get test [] k x h e = absurd cc
-all_get test (y ∷ xs) zero x h e = let q : y ≡ x = (let r : Some y ≡ Some x = e in cc) in subst (λ z. test z ≡ true) q (both_true (test y) (list_all test xs) h).0
-all_get test (y ∷ xs) (suc k) x h e = all_get test xs k x (both_true (test y) (list_all test xs) h).1 e
-
-pub cells_stand : (t slots : ℕ) (inputs : List Shape) (parts : List ℕ) (earlier outputs : List Output) (i j : ℕ) (o : Output) (x : Cell) → all_along (is_output t slots inputs parts) push earlier outputs ≡ true → slice_get outputs i ≡ Some o → slice_get o.cells j ≡ Some x
-    → is_cell t slots parts x ≡ true
-cells_stand t slots inputs parts earlier [] i j o x h e q = absurd cc
-cells_stand t slots inputs parts earlier (p ∷ outputs) zero j o x h e q =
-    let r : p ≡ o = (let s : Some p ≡ Some o = e in cc) in
-    let u = both_true (is_output t slots inputs parts earlier p) (all_along (is_output t slots inputs parts) push (push earlier p) outputs) h in
-    let w = both_true (is_name inputs earlier p.name) (is_between 1 4096 (length p.cells) && list_all (is_cell t slots parts) p.cells) u.0 in
-    let z = both_true (is_between 1 4096 (length p.cells)) (list_all (is_cell t slots parts) p.cells) w.1 in
-    all_get (is_cell t slots parts) p.cells j x z.1 (subst (λ k. slice_get k.cells j ≡ Some x) (sym r) q)
-cells_stand t slots inputs parts earlier (p ∷ outputs) (suc i) j o x h e q =
-    cells_stand t slots inputs parts (push earlier p) outputs i j o x (both_true (is_output t slots inputs parts earlier p) (all_along (is_output t slots inputs parts) push (push earlier p) outputs) h).1 e q
-
-all_over : (test : Cell → Bool) (f : ℕ → ℕ) (xs : List Cell) → ((k : ℕ) (x : Cell) → slice_get xs k ≡ Some x → test (cell_over f x) ≡ true) → list_all test (map (cell_over f) xs) ≡ true
-all_over test f [] h = refl
-all_over test f (x ∷ xs) h = and_true (test (cell_over f x)) (list_all test (map (cell_over f) xs)) (h 0 x refl) (all_over test f xs (λ k y e. h (suc k) y e))
-
-length-over : (f : ℕ → ℕ) (xs : List Cell) → length (map (cell_over f) xs) ≡ length xs
-length-over f [] = refl
-length-over f (x ∷ xs) = ap suc (length-over f xs)
-
-same_names : (text : List ℕ) (f : ℕ → ℕ) (os : List Output) → list_any (names_output text) (map (output_over f) os) ≡ list_any (names_output text) os
-same_names text f [] = refl
-same_names text f (o ∷ os) = ap (λ b. names_output text o || b) (same_names text f os)
-
-pub outputs_stand : (t slots : ℕ) (inputs : List Shape) (parts parts' : List ℕ) (f : ℕ → ℕ) (earlier outputs : List Output) → all_along (is_output t slots inputs parts) push earlier outputs ≡ true
-    → ((i j : ℕ) (o : Output) (x : Cell) → slice_get outputs i ≡ Some o → slice_get o.cells j ≡ Some x → is_cell t slots parts' (cell_over f x) ≡ true)
-    → all_along (is_output t slots inputs parts') push (map (output_over f) earlier) (map (output_over f) outputs) ≡ true
-outputs_stand t slots inputs parts parts' f earlier [] h g = refl
-outputs_stand t slots inputs parts parts' f earlier (p ∷ outputs) h g =
-    let u = both_true (is_output t slots inputs parts earlier p) (all_along (is_output t slots inputs parts) push (push earlier p) outputs) h in
-    let w = both_true (is_name inputs earlier p.name) (is_between 1 4096 (length p.cells) && list_all (is_cell t slots parts) p.cells) u.0 in
-    let z = both_true (is_between 1 4096 (length p.cells)) (list_all (is_cell t slots parts) p.cells) w.1 in
-    let named : is_name inputs (map (output_over f) earlier) p.name ≡ true = ap (named_where p.name) (same_names p.name f earlier) ∙ w.0 in
-    let one : is_output t slots inputs parts' (map (output_over f) earlier) (output_over f p) ≡ true =
-    and_true _ _ named (and_true _ _ (ap (is_between 1 4096) (length-over f p.cells) ∙ z.0) (all_over (is_cell t slots parts') f p.cells (λ k x e. g 0 k p x refl e))) in
-    let rest = outputs_stand t slots inputs parts parts' f (push earlier p) outputs u.1 (λ i j o x e q. g (suc i) j o x e q) in
-    and_true (is_output t slots inputs parts' (map (output_over f) earlier) (output_over f p)) _ one
-    (rw (← (map_push (output_over f) earlier p)) rest)
-  where
-    named_where : List ℕ → Bool → Bool
-    named_where text b = is_between 1 (2 ^ 20) (length text) && (is_word text && not (list_any (names_input text) inputs) && not b)
-
-pub outputs_mean : (old new : List (List ℕ)) (f : ℕ → ℕ) (outputs : List Output) → ((i j : ℕ) (o : Output) (x : Cell) → slice_get outputs i ≡ Some o → slice_get o.cells j ≡ Some x → cell_value new (cell_over f x) ≡ cell_value old x)
-    → map (output_values new) (map (output_over f) outputs) ≡ map (output_values old) outputs
-outputs_mean old new f [] h = refl
-outputs_mean old new f (p ∷ outputs) h =
-    let one = cells_mean p.cells (λ j x e. h 0 j p x refl e) in
-    let rest = outputs_mean old new f outputs (λ i j o x e q. h (suc i) j o x e q) in
-    rw (one, rest) refl
-  where
-    cells_mean : (xs : List Cell) → ((j : ℕ) (x : Cell) → slice_get xs j ≡ Some x → cell_value new (cell_over f x) ≡ cell_value old x) → map (cell_value new) (map (cell_over f) xs) ≡ map (cell_value old) xs
-    cells_mean [] h = refl
-    cells_mean (x ∷ xs) h = rw (h 0 x refl, cells_mean xs (λ j y e. h (suc j) y e)) refl

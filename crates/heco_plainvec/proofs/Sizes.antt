@@ -1,33 +1,28 @@
 -- A gathered circuit's file is short, where that of the circuit leaves room.
-use Rattle.std.proofs.Common.{◌≡◌, ◌∙◌, refl, ap, ℕ, ◌+◌, ◌*◌, ◌-◌, ◌≤◌, List, [], ◌∷◌, ◌++◌, map, length, length-append, arith, inl, inr, true, eqb}
+use Rattle.std.proofs.Common.{◌≡◌, refl, ap, ℕ, ◌+◌, ◌*◌, ◌-◌, ◌≤◌, List, [], ◌∷◌, length, length-append, arith, inl, inr, true, eqb}
 use Rattle.std.specs.Prelude.{codes, Some, slice_get, flat_map}
 use Rattle.std.specs.List.{list_all, sum_by}
 use Rattle.std.specs.Int.{w16, w32, to_be_bytes}
 use Rattle.std.proofs.lemmas.Bool.{eqb-true, le-leb}
-use Rattle.std.proofs.lemmas.Bool.Decides.{nat_tests}
-use Rattle.std.proofs.lemmas.List.{length-map}
 use Rattle.std.proofs.lemmas.List.Sums.{sum_by-cons}
 use Rattle.heco_nums.specs.Presets.{slots_of, modulus_of}
+use Rattle.heco_nums.proofs.PresetCases.{slots_few}
 use Rattle.heco_fields.specs.Formats.{versioned_text}
 use Rattle.heco_fields.proofs.Bools.{both_true}
-use Rattle.heco_circuit.specs.declared.gate.Cell.{Cell}
-use Rattle.heco_circuit.specs.declared.gate.Cell.TheVariants.{Number, Slot}
 use Rattle.heco_circuit.specs.declared.gate.Gate.{Gate}
 use Rattle.heco_circuit.specs.declared.gate.Gate.TheVariants.{Neg, Add, Sub, Mul, Relin, Scale, Shift, Turn, Weigh}
-use Rattle.heco_circuit.specs.declared.gate.Output.{Output}
 use Rattle.heco_circuit.specs.GateFormat.{gate_text}
 use Rattle.heco_circuit.specs.VectorFormat.{vector_text, vectors_text}
-use Rattle.heco_circuit.specs.CircuitFormat.{header_of, name_text, cell_text, output_text, inputs_text, gates_text, outputs_text, circuit_text}
+use Rattle.heco_circuit.specs.CircuitFormat.{header_of, output_text, gates_text, outputs_text, circuit_text}
 use Rattle.heco_circuit.specs.Circuits.{most, is_short}
 use Rattle.heco_circuit.specs.Plans.{Plan, is_vector}
 use Rattle.heco_circuit.specs.Validity.{is_between}
-use Rattle.heco_rewrites.specs.Wires.{over, cell_over, output_over}
+use Rattle.heco_circuit.proofs.Lengths.{file_long}
+use Rattle.heco_rewrites.specs.Wires.{over}
+use Rattle.heco_rewrites.proofs.Outputs.{outputs_long}
 use Rattle.heco_plainvec.specs.Gathering.{HasRoom}
 use Rattle.heco_plainvec.specs.Gathered.{name, gathered_gate, gathered_gates, gathered_vectors, gathered}
 use Rattle.heco_plainvec.proofs.Images.{image_is, less_by}
-
-pub slots_few : (id : ℕ) → slots_of id ≤ 512
-slots_few id = grind (arith, nat_tests)
 
 -- ---- the gates
 over_long : (f : ℕ → ℕ) (g : Gate) → length (gate_text (over f g)) ≡ length (gate_text g)
@@ -56,37 +51,6 @@ gates_long c =
     let l = less_by (gathered_gate c) (λ g. length (gate_text g)) (length c.inputs) c.gates (λ k g h e q. image_long c k g h e q) in
     omega (arith, l, text_sum (gathered_gates c), text_sum c.gates)
 
--- ---- the outputs
-cell_long : (f : ℕ → ℕ) (x : Cell) → length (cell_text (cell_over f x)) ≡ length (cell_text x)
-cell_long f (Number n) = refl
-cell_long f (Slot w s) = refl
-
-cells_long : (f : ℕ → ℕ) (xs : List Cell) → length (flat_map cell_text (map (cell_over f) xs)) ≡ length (flat_map cell_text xs)
-cells_long f [] = refl
-cells_long f (x ∷ xs) =
-    omega (arith, cell_long f x, cells_long f xs, length-append (cell_text (cell_over f x)) (flat_map cell_text (map (cell_over f) xs)), length-append (cell_text x) (flat_map cell_text xs))
-
-output_long : (f : ℕ → ℕ) (o : Output) → length (output_text (output_over f o)) ≡ length (output_text o)
-output_long f o =
-    let m : length (map (cell_over f) o.cells) ≡ length o.cells = length-map o.cells (cell_over f) in
-    let two : length (to_be_bytes w16 (length o.cells)) ≡ 2 = refl in
-    let twice : length (to_be_bytes w16 (length (map (cell_over f) o.cells))) ≡ 2 = refl in
-    omega (
-      arith,
-      two,
-      twice,
-      cells_long f o.cells,
-      length-append (name_text o.name ++ to_be_bytes w16 (length o.cells)) (flat_map cell_text o.cells),
-      length-append (name_text o.name) (to_be_bytes w16 (length o.cells)),
-      length-append (name_text o.name ++ to_be_bytes w16 (length (map (cell_over f) o.cells))) (flat_map cell_text (map (cell_over f) o.cells)),
-      length-append (name_text o.name) (to_be_bytes w16 (length (map (cell_over f) o.cells))),
-    )
-
-outputs_long : (f : ℕ → ℕ) (os : List Output) → length (flat_map output_text (map (output_over f) os)) ≡ length (flat_map output_text os)
-outputs_long f [] = refl
-outputs_long f (o ∷ os) =
-    omega (arith, output_long f o, outputs_long f os, length-append (output_text (output_over f o)) (flat_map output_text (map (output_over f) os)), length-append (output_text o) (flat_map output_text os))
-
 -- ---- the vectors
 vector_long : (v : List ℕ) → length (vector_text v) ≡ 4 * length v
 vector_long [] = refl
@@ -108,13 +72,6 @@ vectors_short t slots (v ∷ vs) l m h =
     omega (arith, four, m, r, length-append (to_be_bytes w32 (length (v ∷ vs))) (flat_map vector_text (v ∷ vs)))
 
 -- ---- the whole file
-whole : (c : Plan) → length (circuit_text c) ≡ length (versioned_text (codes "HCIR") (header_of c)) + (length (inputs_text c.inputs) + (length (vectors_text c.vectors) + (length (gates_text c.gates) + length (outputs_text c.outputs))))
-whole c =
-    length-append (versioned_text (codes "HCIR") (header_of c)) (inputs_text c.inputs ++ (vectors_text c.vectors ++ (gates_text c.gates ++ outputs_text c.outputs)))
-    ∙ ap (λ n. length (versioned_text (codes "HCIR") (header_of c)) + n) (length-append (inputs_text c.inputs) (vectors_text c.vectors ++ (gates_text c.gates ++ outputs_text c.outputs))
-    ∙ ap (λ n. length (inputs_text c.inputs) + n) (length-append (vectors_text c.vectors) (gates_text c.gates ++ outputs_text c.outputs)
-    ∙ ap (λ n. length (vectors_text c.vectors) + n) (length-append (gates_text c.gates) (outputs_text c.outputs))))
-
 pub still_short : (c : Plan) → HasRoom c → length (gathered_vectors c) ≤ 256 → list_all (is_vector (modulus_of c.preset) (slots_of c.preset)) (gathered_vectors c) ≡ true → is_short (gathered c) ≡ true
 unfolding gathered is_short
 still_short c short few are =
@@ -126,5 +83,5 @@ still_short c short few are =
     let o : length (outputs_text c.outputs) ≡ 2 + length (flat_map output_text c.outputs) = length-append (to_be_bytes w16 (length c.outputs)) (flat_map output_text c.outputs) in
     let o' : length (outputs_text d.outputs) ≡ 2 + length (flat_map output_text d.outputs) = length-append (to_be_bytes w16 (length d.outputs)) (flat_map output_text d.outputs) in
     let v = vectors_short (modulus_of c.preset) (slots_of c.preset) (gathered_vectors c) (slots_few c.preset) few are in
-    let l : length (circuit_text d) ≤ most = omega (arith, short, whole c, whole d, head, head', g, g', o, o', v, gates_long c, outputs_long (name c) c.outputs) in
+    let l : length (circuit_text d) ≤ most = omega (arith, short, file_long c, file_long d, head, head', g, g', o, o', v, gates_long c, outputs_long (name c) c.outputs) in
     le-leb (length (circuit_text d)) most l

@@ -19,7 +19,7 @@ use Rattle.heco_rewrites.proofs.OtherNames.{first, over_is_gate}
 use Rattle.heco_rewrites.proofs.Named.{longer, even_more}
 use Rattle.heco_rewrites.proofs.Along.{gate_below}
 use Rattle.heco_plainvec.specs.Gathering.{vector, chosen, weighed_bound}
-use Rattle.heco_plainvec.specs.Gathered.{source, first_multiple, leader, stays, place, name, vector_number, gate_where, gathered_gate, gathered_vectors}
+use Rattle.heco_plainvec.specs.Gathered.{source, first_multiple, leader, stays, staying_below, name, vector_number, gate_where, gathered_gate, gathered_vectors}
 use Rattle.heco_plainvec.proofs.Numbered.{maker_at}
 use Rattle.heco_plainvec.proofs.Leaders.{IsSource, source_is, operand_stays, leader_itself, leader_of, source_stays, first_source, first_below, chosen_serves, Served, served}
 use Rattle.heco_plainvec.proofs.Places.{place_kept, place_gone}
@@ -73,7 +73,7 @@ last_old c u old new g s = ap (known (behind c.preset c.vectors old g)) (sym s.o
 
 last_new : (c : Plan) (u : ℕ) (old new : Wires) (h : Gate) → IsSwept c u old new → leader c u ≡ u → known (behind c.preset (gathered_vectors c) new h) (name c u) ≡ given c.preset (gathered_vectors c) new h
 last_new c u old new h s l =
-    ap (λ k. known (behind c.preset (gathered_vectors c) new h) k) (ap (place c) l ∙ sym s.new_long) ∙ known_last c.preset (gathered_vectors c) new h s.new_even
+    ap (λ k. known (behind c.preset (gathered_vectors c) new h) k) (ap (staying_below c) l ∙ sym s.new_long) ∙ known_last c.preset (gathered_vectors c) new h s.new_even
 
 -- ---- it stays
 stay : (c : Plan) (u : ℕ) (old new : Wires) (g : Gate) → Earlier c → IsSwept c u old new → IsNext c u old g → source c u ≡ None → IsStep c u old new g (gathered_gate c (u, g))
@@ -198,7 +198,7 @@ goes c u of old new g early s n e = by_stays (stays c u) refl
         let lt : m < u = less m u le ne in
         let sm : source c m ≡ Some of = first_source c of is_chosen in
         let z : IsGone c old new m of = s.before.gone m of lt sm in
-        let names : name c u ≡ name c m = ap (place c) (leader_of c u of e) ∙ sym (ap (place c) (leader_of c m of sm)) in
+        let names : name c u ≡ name c m = ap (staying_below c) (leader_of c u of e) ∙ sym (ap (staying_below c) (leader_of c m of sm)) in
         let gone : IsGone c old' new u of = record {
           by = is.by;
           gate = made;

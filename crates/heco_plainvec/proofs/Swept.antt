@@ -10,7 +10,7 @@ use Rattle.heco_meaning.specs.Meanings.{wire_at, products}
 use Rattle.heco_rewrites.specs.Wires.{Wires, behind, operands, Even, maker}
 use Rattle.heco_rewrites.proofs.OtherNames.{first}
 use Rattle.heco_plainvec.specs.Gathering.{vector}
-use Rattle.heco_plainvec.specs.Gathered.{source, leader, place, name, gathered_vectors}
+use Rattle.heco_plainvec.specs.Gathered.{source, leader, staying_below, name, gathered_vectors}
 use Rattle.heco_plainvec.proofs.Leaders.{IsSource, source_is, leader_below, leader_stays}
 use Rattle.heco_plainvec.proofs.Places.{place_before}
 use Rattle.heco_plainvec.proofs.Known.{known, parts_known, slots_known, known_more}
@@ -25,7 +25,7 @@ source_earlier c early wire a e =
     let l = early s.place (Scale s.by a) s.gate a (first a []) in
     let n = s.number in omega (arith, l, n)
 
-pub name_below : (c : Plan) (a u : ℕ) → a < u → name c a < place c u
+pub name_below : (c : Plan) (a u : ℕ) → a < u → name c a < staying_below c u
 name_below c a u l = let b = leader_below c a in place_before c (leader c a) u (leader_stays c a) (omega (arith, l, b))
 
 -- a multiple of a wire, in whose place the wire is weighed
@@ -44,7 +44,7 @@ pub record Before (c : Plan) (u : ℕ) (old new : Wires) : Type 0 where
 
 pub record IsSwept (c : Plan) (u : ℕ) (old new : Wires) : Type 0 where
   pub old_long : length old.parts ≡ u
-  pub new_long : length new.parts ≡ place c u
+  pub new_long : length new.parts ≡ staying_below c u
   pub old_even : Even old
   pub new_even : Even new
   pub before : Before c u old new
@@ -68,7 +68,7 @@ before_old c u old new g early e l b = record {
       };
 }
 
-pub before_new : (c : Plan) (u : ℕ) (old new : Wires) (h : Gate) → Even new → length new.parts ≡ place c u → Before c u old new → Before c u old (behind c.preset (gathered_vectors c) new h)
+pub before_new : (c : Plan) (u : ℕ) (old new : Wires) (h : Gate) → Even new → length new.parts ≡ staying_below c u → Before c u old new → Before c u old (behind c.preset (gathered_vectors c) new h)
 before_new c u old new h e l b = record {
   each = λ a la s. known_more c.preset (gathered_vectors c) new h (name c a) e (rw l (name_below c a u la)) ∙ b.each a la s;
   gone = λ a of la s.

@@ -17,7 +17,7 @@ use Rattle.heco_rewrites.specs.Needed.{has}
 use Rattle.heco_rewrites.proofs.OtherNames.{first}
 use Rattle.heco_plainvec.specs.declared.multiple.Multiple.{Multiple}
 use Rattle.heco_plainvec.specs.Gathering.{cell_only, multiple_where, multiple_of, multiples, asked_at, asked_by, asked, chosen}
-use Rattle.heco_plainvec.specs.Gathered.{source, first_multiple, leader, stays, place, name, gate_where, gathered_gate, gathered_gates, gathered}
+use Rattle.heco_plainvec.specs.Gathered.{source, first_multiple, leader, stays, staying_below, name, gate_where, gathered_gate, gathered_gates, gathered}
 use Rattle.heco_plainvec.proofs.Leaders.{IsMultiple, multiple_is, IsSource, source_is, operand_stays, leader_itself, leader_of, source_stays, first_source, leader_stays}
 use Rattle.heco_plainvec.proofs.Places.{place_kept, place_gone, place_inputs, place_apart, name_itself}
 use Rattle.heco_plainvec.proofs.Images.{scale_at}
@@ -81,7 +81,7 @@ abbrev new_multiples : Plan → ℕ → ℕ → List Gate → List Multiple
 new_multiples c x u gates = filter_map (multiple_of (cell_only (gathered c)) (name c x)) (enumerate_from u gates)
 
 table_from : (c : Plan) (x k : ℕ) (gates : List Gate) → ((j : ℕ) (g : Gate) → slice_get gates j ≡ Some g → slice_get c.gates (k + j) ≡ Some g) → source c x ≡ None → has (chosen c) x ≡ false
-    → new_multiples c x (place c (length c.inputs + k)) (filter_map (gathered_gate c) (enumerate_from (length c.inputs + k) gates))
+    → new_multiples c x (staying_below c (length c.inputs + k)) (filter_map (gathered_gate c) (enumerate_from (length c.inputs + k) gates))
     ≡ map (renamed c) (filter_map (multiple_of (cell_only c) x) (enumerate_from (length c.inputs + k) gates))
 table_from c x k [] here s h = refl
 table_from c x k (g ∷ gates) here s h =
@@ -96,7 +96,7 @@ table_from c x k (g ∷ gates) here s h =
     here_at = let z : k + 0 ≡ k = omega arith in rw z at (here 0 g refl)
 
     Rest : Type 0
-    Rest = new_multiples c x (place c (u + 1)) (filter_map (gathered_gate c) (enumerate_from (u + 1) gates)) ≡ map (renamed c) (filter_map (multiple_of (cell_only c) x) (enumerate_from (u + 1) gates))
+    Rest = new_multiples c x (staying_below c (u + 1)) (filter_map (gathered_gate c) (enumerate_from (u + 1) gates)) ≡ map (renamed c) (filter_map (multiple_of (cell_only c) x) (enumerate_from (u + 1) gates))
 
     more : List Gate
     more = filter_map (gathered_gate c) (enumerate_from (u + 1) gates)
@@ -108,21 +108,21 @@ table_from c x k (g ∷ gates) here s h =
     here_is b o t q = ap (λ b. cond b (Some (gate_where c g (source c u))) None) t ∙ ap (λ o. cond b (Some (gate_where c g o)) None) q
 
     -- the gate is there under its new number
-    kept : (h' : Gate) (o : Option Multiple) → stays c u ≡ true → gathered_gate c (u, g) ≡ Some h' → multiple_where (cell_only (gathered c) (place c u)) (name c x) (place c u) h' ≡ option_map (renamed c) o → multiple_where (cell_only c u) x u g ≡ o → Rest
-        → new_multiples c x (place c u) (cons_option (gathered_gate c (u, g)) more) ≡ map (renamed c) (cons_option (multiple_where (cell_only c u) x u g) olds)
+    kept : (h' : Gate) (o : Option Multiple) → stays c u ≡ true → gathered_gate c (u, g) ≡ Some h' → multiple_where (cell_only (gathered c) (staying_below c u)) (name c x) (staying_below c u) h' ≡ option_map (renamed c) o → multiple_where (cell_only c u) x u g ≡ o → Rest
+        → new_multiples c x (staying_below c u) (cons_option (gathered_gate c (u, g)) more) ≡ map (renamed c) (cons_option (multiple_where (cell_only c u) x u g) olds)
     kept h' o t q m w rest =
-        ap (λ z. new_multiples c x (place c u) (cons_option z more)) q
-        ∙ ap (λ z. cons_option (multiple_where (cell_only (gathered c) (place c u)) (name c x) (place c u) h') (new_multiples c x z more)) (sym (place_kept c u t))
-        ∙ ap (λ z. cons_option z (new_multiples c x (place c (u + 1)) more)) m
+        ap (λ z. new_multiples c x (staying_below c u) (cons_option z more)) q
+        ∙ ap (λ z. cons_option (multiple_where (cell_only (gathered c) (staying_below c u)) (name c x) (staying_below c u) h') (new_multiples c x z more)) (sym (place_kept c u t))
+        ∙ ap (λ z. cons_option z (new_multiples c x (staying_below c (u + 1)) more)) m
         ∙ ap (cons_option (option_map (renamed c) o)) rest
         ∙ sym (map_option c o olds)
         ∙ ap (λ z. map (renamed c) (cons_option z olds)) (sym w)
 
     by_source : (o : Option ℕ) → source c u ≡ o → Rest
-        → new_multiples c x (place c u) (cons_option (gathered_gate c (u, g)) more) ≡ map (renamed c) (cons_option (multiple_where (cell_only c u) x u g) olds)
+        → new_multiples c x (staying_below c u) (cons_option (gathered_gate c (u, g)) more) ≡ map (renamed c) (cons_option (multiple_where (cell_only c u) x u g) olds)
     by_source None q rest =
         let t = source_stays c u q in
-        let p : name c u ≡ place c u = name_itself c u q in
+        let p : name c u ≡ staying_below c u = name_itself c u q in
         kept (over (name c) g) (multiple_where (cell_only c u) x u g) t (here_is true None t q)
         (subst (λ z. multiple_where (cell_only (gathered c) z) (name c x) z (over (name c) g) ≡ option_map (renamed c) (multiple_where (cell_only c u) x u g)) p (kept_multiple c k x g here_at q s)) refl rest
     by_source (Some of) q rest = by_stays (stays c u) refl
@@ -130,10 +130,10 @@ table_from c x k (g ∷ gates) here s h =
         none : multiple_where (cell_only c u) x u g ≡ None
         none = other_multiple c u k x of g refl here_at q h
 
-        by_stays : (b : Bool) → stays c u ≡ b → new_multiples c x (place c u) (cons_option (gathered_gate c (u, g)) more) ≡ map (renamed c) (cons_option (multiple_where (cell_only c u) x u g) olds)
+        by_stays : (b : Bool) → stays c u ≡ b → new_multiples c x (staying_below c u) (cons_option (gathered_gate c (u, g)) more) ≡ map (renamed c) (cons_option (multiple_where (cell_only c u) x u g) olds)
         by_stays true t = kept (gate_where c g (Some of)) None t (here_is true (Some of) t q) refl none rest
         by_stays false t =
-            ap (λ z. new_multiples c x (place c u) (cons_option z more)) (here_is false (Some of) t q)
+            ap (λ z. new_multiples c x (staying_below c u) (cons_option z more)) (here_is false (Some of) t q)
             ∙ ap (λ z. new_multiples c x z more) (sym (place_gone c u t))
             ∙ rest
             ∙ ap (λ z. map (renamed c) (cons_option z olds)) (sym none)
@@ -142,9 +142,9 @@ pub table : (c : Plan) (x : ℕ) → source c x ≡ None → has (chosen c) x �
 unfolding gathered
 table c x s h =
     let z : length c.inputs + 0 ≡ length c.inputs = omega arith in
-    let p : place c (length c.inputs) ≡ length c.inputs = place_inputs c (length c.inputs) (omega arith) in
+    let p : staying_below c (length c.inputs) ≡ length c.inputs = place_inputs c (length c.inputs) (omega arith) in
     let t = table_from c x 0 c.gates (λ j g e. let y : 0 + j ≡ j = omega arith in rw y e) s h in
-    ap (λ u. new_multiples c x u (gathered_gates c)) (sym p) ∙ subst (λ u. new_multiples c x (place c u) (filter_map (gathered_gate c) (enumerate_from u c.gates)) ≡ map (renamed c) (filter_map (multiple_of (cell_only c) x) (enumerate_from u c.gates))) z t
+    ap (λ u. new_multiples c x u (gathered_gates c)) (sym p) ∙ subst (λ u. new_multiples c x (staying_below c u) (filter_map (gathered_gate c) (enumerate_from u c.gates)) ≡ map (renamed c) (filter_map (multiple_of (cell_only c) x) (enumerate_from u c.gates))) z t
 
 -- ---- what is asked of them
 -- a multiple of a wire that isn't chosen stays

@@ -1,25 +1,25 @@
 -- A gathered circuit is valid.
-use Rattle.std.proofs.Common.{◌≡◌, refl, sym, ap, ℕ, ◌+◌, ◌-◌, ◌^◌, ◌<◌, ◌≤◌, List, [], ◌∷◌, ◌++◌, map, length, length-append, arith, Bool, true, subst}
+use Rattle.std.proofs.Common.{◌≡◌, refl, sym, ap, ℕ, ◌+◌, ◌-◌, ◌^◌, ◌≤◌, List, [], ◌∷◌, ◌++◌, map, length, length-append, arith, Bool, true, subst}
 use Rattle.std.specs.Prelude.{filter}
 use Rattle.std.specs.List.{list_all}
 use Rattle.std.specs.Option.{is_none}
 use Rattle.std.proofs.lemmas.Bool.{le-leb, leb-true}
-use Rattle.std.proofs.lemmas.Bool.Decides.{nat_tests}
 use Rattle.std.proofs.lemmas.List.{length-map, length-take}
 use Rattle.heco_nums.specs.Presets.{modulus_of, slots_of}
-use Rattle.heco_fields.specs.Runs.{along, all_along}
+use Rattle.heco_nums.specs.Runs.{along, all_along}
 use Rattle.heco_fields.proofs.Bools.{both_true, and_true}
 use Rattle.heco_circuit.specs.Circuits.{IsCircuit}
 use Rattle.heco_circuit.specs.Plans.{Plan, input_parts, wire_parts, is_vector, is_output, is_cell, push, are_vectors, are_gates, are_outputs, is_formed}
 use Rattle.heco_circuit.specs.Validity.{with_gate}
 use Rattle.heco_rewrites.specs.Wires.{first_wires, cell_over, output_over}
 use Rattle.heco_rewrites.proofs.Along.{along_parts}
+use Rattle.heco_rewrites.proofs.Outputs.{cells_stand, outputs_stand}
 use Rattle.heco_plainvec.specs.Gathering.{asked, vector, chosen, serves, wires, most_vectors, HasRoom}
 use Rattle.heco_plainvec.specs.Gathered.{name, gathered_gates, gathered_vectors, gathered}
 use Rattle.heco_plainvec.proofs.AskedAll.{asked_are, vector_fits}
 use Rattle.heco_plainvec.proofs.Sweep.{AreSwept}
 use Rattle.heco_plainvec.proofs.Whole.{Valid, valid, all_wires, new_wires, whole}
-use Rattle.heco_plainvec.proofs.Outputs.{cell_stands, cells_stand, outputs_stand}
+use Rattle.heco_plainvec.proofs.Outputs.{cell_stands}
 use Rattle.heco_plainvec.proofs.Counts.{fewer_gates}
 use Rattle.heco_plainvec.proofs.Sizes.{still_short}
 
@@ -53,9 +53,6 @@ vectors_few c v =
     omega (arith, a, b, l, m)
 
 -- ---- the whole
-pub slots_pos : (id : ℕ) → 0 < slots_of id
-slots_pos id = grind (arith, nat_tests)
-
 abbrev pub no_rows : Plan → List (List ℕ)
 no_rows c = map (λ s. []) c.inputs
 

@@ -1,16 +1,16 @@
 -- What is known of all wires of a gathered circuit.
-use Rattle.std.proofs.Common.{◌≡◌, ℕ, suc, ◌+◌, ◌-◌, ◌^◌, List, [], ◌∷◌, length, refl, ap, sym, ◌∙◌, arith, true, ◌&&◌, leb}
+use Rattle.std.proofs.Common.{◌≡◌, ℕ, ◌+◌, ◌-◌, ◌^◌, List, [], length, refl, ap, sym, ◌∙◌, arith, true, ◌&&◌, leb}
 use Rattle.std.specs.Prelude.{Option, Some, None}
 use Rattle.std.specs.List.{list_all}
 use Rattle.std.specs.Option.{is_none}
 use Rattle.std.proofs.lemmas.List.{length-map}
 use Rattle.heco_nums.specs.Presets.{modulus_of, slots_of}
-use Rattle.heco_fields.specs.Runs.{along, all_along}
+use Rattle.heco_nums.specs.Runs.{along, all_along}
 use Rattle.heco_fields.proofs.Bools.{both_true}
 use Rattle.heco_circuit.specs.Plans.{Plan, input_parts, are_inputs, are_vectors, are_gates, are_outputs, is_vector, is_output, push, wire_parts}
 use Rattle.heco_circuit.specs.Circuits.{IsCircuit, passing}
 use Rattle.heco_circuit.specs.Validity.{is_between}
-use Rattle.heco_circuit.specs.Bounds.{fresh_bounds}
+use Rattle.heco_circuit.proofs.Lengths.{length-input_parts, length-fresh_bounds}
 use Rattle.heco_meaning.specs.Meanings.{filled}
 use Rattle.heco_rewrites.specs.Wires.{Wires, behind, first_wires, Even}
 use Rattle.heco_rewrites.proofs.Along.{along_bounds, all_earlier}
@@ -47,14 +47,6 @@ valid c h =
     let g = both_true (leb (length c.gates) (2 ^ 25 - 1)) (may_stand c (length c.vectors) (input_parts c.inputs) c.gates) e.0 in
     let o = both_true (leb (length c.outputs) (256 - length c.inputs)) (all_along (is_output (modulus_of c.preset) (slots_of c.preset) c.inputs (wire_parts c)) push [] c.outputs) e.1 in
     record { preset = a.0; inputs = b.0; few_vectors = v.0; vectors = v.1; few_gates = g.0; gates = g.1; few_outputs = o.0; outputs = o.1; quiet = none (passing c) h.1 }
-
-pub length-input_parts : {A : Type 0} (xs : List A) → length (input_parts xs) ≡ length xs
-length-input_parts [] = refl
-length-input_parts (x ∷ xs) = ap suc (length-input_parts xs)
-
-pub length-fresh_bounds : {A : Type 0} (id : ℕ) (xs : List A) → length (fresh_bounds id xs) ≡ length xs
-length-fresh_bounds id [] = refl
-length-fresh_bounds id (x ∷ xs) = ap suc (length-fresh_bounds id xs)
 
 pub earlier : (c : Plan) → Valid c → Earlier c
 earlier c v k g e a i =

@@ -39,13 +39,13 @@ abbrev pub stays : Plan → ℕ → Bool
 stays c wire = leader c wire == wire
 
 -- how many of the wires below this one stay
-abbrev pub place : Plan → ℕ → ℕ
-place c zero = 0
-place c (suc wire) = place c wire + (if stays c wire then 1 else 0)
+abbrev pub staying_below : Plan → ℕ → ℕ
+staying_below c zero = 0
+staying_below c (suc wire) = staying_below c wire + (if stays c wire then 1 else 0)
 
 -- the new number of a wire
 abbrev pub name : Plan → ℕ → ℕ
-name c wire = place c (leader c wire)
+name c wire = staying_below c (leader c wire)
 
 -- the number of the vector for the multiples of a, behind the vectors that there were
 abbrev pub vector_number : Plan → ℕ → ℕ

@@ -1,4 +1,4 @@
 pub mod Gathering
 pub mod Gathered
 pub mod Kept
-pub mod Finding
+pub mod inside

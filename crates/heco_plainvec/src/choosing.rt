@@ -5,7 +5,7 @@ ghost use Rattle.heco_noise.specs.Rows.{IsQuiet};
 ghost use Rattle.heco_thrift.specs.Thrift.{bounds_of};
 ghost use Rattle.heco_plainvec.specs.Gathering.{wires, multiples, asked};
 ghost use Rattle.heco_plainvec.specs.Gathered.{first_wire, gathered_vectors};
-ghost use Rattle.heco_plainvec.specs.Finding.{IsAsk, product_by, where_room, numbered_product, product_at};
+ghost use Rattle.heco_plainvec.specs.inside.Finding.{IsAsk, product_by, where_room, numbered_product, product_at};
 
 use crate::multiple::{Asked, Multiple, Product};
 use crate::product::product_by;
@@ -98,7 +98,7 @@ fn choices_beside(
     ensures vectors { IfOk result (λ r. r.vectors ≡ gathered_vectors c.now) }
 {
     valid_circuits_are_quiet();
-    let _preset = c.preset();
+    let _valid = c.preset();
     let mut vectors = copied_vectors(alloc, c.vectors().as_slice())?;
     let mut products = List::new(alloc);
     for a in 0..bounds.len() {

@@ -1,6 +1,6 @@
 ghost use Rattle.std.specs.Prelude.{◌≡◌, ◌<◌, ◌||◌, ◌==◌, All, IsTrue, Some, None, length, slice_index, slice_set, IfOk, if◌then◌else◌};
 ghost use Rattle.heco_plainvec.specs.Gathering.{agree, vector_of};
-ghost use Rattle.heco_plainvec.specs.Finding.{IsAsk};
+ghost use Rattle.heco_plainvec.specs.inside.Finding.{IsAsk};
 
 use crate::multiple::Asked;
 use heco_nums::{List, Memory, Preset};

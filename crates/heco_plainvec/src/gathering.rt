@@ -2,7 +2,7 @@ ghost use Rattle.std.specs.Prelude.{◌≡◌, IfOk, map};
 ghost use Rattle.heco_thrift.specs.Thrift.{bounds_of};
 ghost use Rattle.heco_plainvec.specs.Gathered.{name, gathered_gates, gathered_vectors, gathered};
 ghost use Rattle.heco_plainvec.specs.Gathering.{is_read, wires, HasRoom};
-ghost use Rattle.heco_plainvec.specs.Finding.{product_at};
+ghost use Rattle.heco_plainvec.specs.inside.Finding.{product_at};
 
 use crate::asks::asks_of;
 use crate::choosing::{Choices, choices_of};

@@ -61,7 +61,7 @@ pub fn multiples_of(
     requires { reads.now ≡ map (is_read c.now) (wires c.now) }
     ensures { IfOk result (λ groups. groups ≡ map (multiples c.now) (wires c.now)) }
 {
-    let _preset = c.preset();
+    let _valid = c.preset();
     let mut groups = empties(alloc, reads.len())?;
     let inputs = c.inputs().len() as u32;
     let gates = c.gates().as_slice();

@@ -2,7 +2,7 @@ ghost use Rattle.std.specs.Prelude.{◌≡◌, All, IsTrue, length, IfOk};
 ghost use Rattle.heco_noise.specs.Rows.{IsQuiet, passes, weighed};
 ghost use Rattle.heco_circuit.specs.Bounds.{vector_weight_of};
 ghost use Rattle.heco_circuit.specs.Plans.{is_vector};
-ghost use Rattle.heco_plainvec.specs.Finding.{IsAsk, product_by};
+ghost use Rattle.heco_plainvec.specs.inside.Finding.{IsAsk, product_by};
 
 use crate::filling::vector_of;
 use crate::multiple::{Asked, Multiple};

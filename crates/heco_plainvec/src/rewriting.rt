@@ -3,13 +3,13 @@ ghost use Rattle.std.specs.List.{cons_option, range_with_len};
 ghost use Rattle.heco_rewrites.specs.Wires.{maker};
 ghost use Rattle.heco_plainvec.specs.Gathering.{is_read, wires};
 ghost use Rattle.heco_plainvec.specs.Gathered.{name, gathered_gates};
-ghost use Rattle.heco_plainvec.specs.Finding.{product_at, replacing, IsImage, standing, new_name};
+ghost use Rattle.heco_plainvec.specs.inside.Finding.{product_at, replacing, IsImage, standing, new_name};
 
 use crate::multiple::{Product, Replacing};
 use crate::scaled::scaled;
 use heco_circuit::{Circuit, Gate};
 use heco_nums::{List, Memory};
-use heco_rewrites::{name_at, over};
+use heco_rewrites::{input_names, name_at, over};
 use std::alloc::Global;
 
 /// What comes of a gate: a gate, or nothing where its wire's value stands at an earlier wire.
@@ -48,7 +48,7 @@ fn replacing(
     requires products { products.now ≡ map (product_at c.now) (wires c.now) }
     ensures { result ≡ replacing c.now wire gate }
 {
-    let _preset = c.preset();
+    let _valid = c.preset();
     match scaled(reads, wire, gate) {
         Some(s) => match product_of(products, s.of) {
             Some(product) => Some(Replacing { of: s.of, product }),
@@ -73,7 +73,7 @@ fn image_of(
     requires names { names.now ≡ map (name c.now) (range_with_len 0 wire) }
     ensures { IsImage c.now wire gate result }
 {
-    let _preset = c.preset();
+    let _valid = c.preset();
     match replacing(c, reads, products, wire, gate) {
         Some(r) => {
             if r.product.first == wire {
@@ -112,17 +112,6 @@ fn put_image(
     }
 }
 
-/// The names of so many inputs.
-fn input_names(alloc: Global, inputs: u32) -> Result<List<u32>, Memory>
-    ensures { IfOk result (λ names. names ≡ range_with_len 0 inputs) }
-{
-    let mut names = List::new(alloc);
-    for i in 0..inputs {
-        names.push(i)?;
-    }
-    Ok(names)
-}
-
 /// All gates, with products in place of multiples.
 pub fn rewrite(
     alloc: Global,
@@ -135,7 +124,7 @@ pub fn rewrite(
     ensures gates { IfOk result (λ r. r.gates ≡ gathered_gates c.now) }
     ensures names { IfOk result (λ r. r.names ≡ map (name c.now) (wires c.now)) }
 {
-    let _preset = c.preset();
+    let _valid = c.preset();
     let inputs = c.inputs().len() as u32;
     let mut names = input_names(alloc, inputs)?;
     let mut gates = List::new(alloc);

@@ -1,7 +1,7 @@
 ghost use Rattle.std.specs.Prelude.{◌≡◌, ◌<◌, not, false, length, map, slice_index_or};
 ghost use Rattle.heco_rewrites.specs.Wires.{maker};
 ghost use Rattle.heco_plainvec.specs.Gathering.{is_read, wires};
-ghost use Rattle.heco_plainvec.specs.Finding.{scaled_where, scaled_at};
+ghost use Rattle.heco_plainvec.specs.inside.Finding.{scaled_where, scaled_at};
 
 use crate::multiple::Scaled;
 use heco_circuit::{Circuit, Gate};

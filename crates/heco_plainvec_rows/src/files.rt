@@ -1,5 +1,5 @@
-use heco_circuit::{Circuit, read, write};
-use heco_listing::listing;
+use heco_circuit::{Circuit, write};
+use heco_circuit_rows::circuit_in;
 use heco_plainvec::gather;
 use std::alloc::Global;
 use std::test::Fail;
@@ -26,20 +26,9 @@ idle 484349520101000100000001780001000000020600000002000000000600000003000000000
 // The longest file that leaves room for vectors.
 const LONGEST: usize = 535822336;
 
-fn file_of(alloc: Global, name: &str) -> Result<Vec<u8>, Fail> {
-    for line in FILES.lines() {
-        let (first, text) = line.split_once(' ').unwrap_or(("", ""));
-        if first == name {
-            return Ok(hex::decode(alloc, text)?);
-        }
-    }
-    Err("no file".into())
-}
-
 /// The circuit of the file of that name.
 pub fn circuit_of(alloc: Global, name: &str) -> Result<Circuit, Fail> {
-    let file = file_of(alloc, name)?;
-    Ok(read(alloc, file.as_slice())?)
+    circuit_in(alloc, FILES, name)
 }
 
 /// The circuit gathered.
@@ -50,17 +39,4 @@ pub fn gathered(alloc: Global, c: Circuit) -> Result<Circuit, Fail> {
     } else {
         Err("no room".into())
     }
-}
-
-fn marked(c: u8) -> u8 {
-    if c == b'\n' { b'$' } else { c }
-}
-
-/// The listing, with `$` for each line end.
-pub fn shown(alloc: Global, c: &Circuit) -> Result<Vec<u8>, Fail> {
-    let mut text = Vec::new(alloc);
-    for byte in listing(alloc, c)?.as_slice() {
-        text.push(marked(*byte))?;
-    }
-    Ok(text)
 }

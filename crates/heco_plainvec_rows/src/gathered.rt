@@ -1,4 +1,5 @@
-use crate::files::{circuit_of, gathered, shown};
+use crate::files::{circuit_of, gathered};
+use heco_circuit_rows::{shown, wanted};
 use std::alloc::Global;
 use std::test::Fail;
 
@@ -35,10 +36,6 @@ fn shown_again(alloc: Global, name: &str) -> Result<Vec<u8>, Fail> {
     let d = gathered(alloc, c)?;
     let e = gathered(alloc, d)?;
     shown(alloc, &e)
-}
-
-fn wanted<'a>(before: &'a str, after: &'a str) -> &'a str {
-    if after == "same" { before } else { after }
 }
 
 // The name, the listing before and the listing after.

@@ -3,27 +3,27 @@ ghost use Rattle.std.specs.Int.RustNames.{unsigned_abs};
 ghost use lib.IntN.{pos, ◌+ℤ◌, ◌-ℤ◌, ◌*ℤ◌, neg_ℤ};
 ghost use Rattle.heco_ring.specs.Remainders.{rem};
 
-const MASK: u64 = (1 << 58) - 1;
+use heco_nums::Q_MASK;
 
 /// The sum modulo 2^58.
 pub fn add(x: u64, y: u64) -> u64
     ensures { result ≡ rem (2 ^ 58) (pos x +ℤ pos y) }
 {
-    x.wrapping_add(y) & MASK
+    x.wrapping_add(y) & Q_MASK
 }
 
 /// The difference modulo 2^58.
 pub fn sub(x: u64, y: u64) -> u64
     ensures { result ≡ rem (2 ^ 58) (pos x -ℤ pos y) }
 {
-    x.wrapping_sub(y) & MASK
+    x.wrapping_sub(y) & Q_MASK
 }
 
 /// The product modulo 2^58.
 pub fn mul(x: u64, y: u64) -> u64
     ensures { result ≡ rem (2 ^ 58) (pos x *ℤ pos y) }
 {
-    x.wrapping_mul(y) & MASK
+    x.wrapping_mul(y) & Q_MASK
 }
 
 /// A small whole number modulo 2^58.

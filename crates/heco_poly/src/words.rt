@@ -1,6 +1,6 @@
 ghost use Rattle.std.specs.Prelude.{◌≡◌, ◌%◌, ◌^◌, EachIndex, slice_index};
 
-const MASK: u64 = (1 << 58) - 1;
+use heco_nums::Q_MASK;
 
 /// Each word becomes 0.
 pub fn clear(out: &mut [u64])
@@ -16,6 +16,6 @@ pub fn mask(out: &mut [u64])
     ensures { EachIndex out.new (λ k. slice_index out.new k ≡ slice_index out.old k % 2 ^ 58) }
 {
     for i in 0..out.len() {
-        out[i] &= MASK;
+        out[i] &= Q_MASK;
     }
 }

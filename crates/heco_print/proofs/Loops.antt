@@ -1,9 +1,9 @@
 -- The tokens of statements with blocks.
-use Rattle.std.proofs.Common.{◌≡◌, ◌∙◌, sym, ap, List, [], ◌∷◌, ◌++◌, Some, None, map, append_assoc, append-nil}
+use Rattle.std.proofs.Common.{◌≡◌, ◌∙◌, sym, ap, List, [], ◌++◌, Some, None, map, append_assoc, append-nil}
 use Rattle.std.specs.List.{flat_map}
 use Rattle.heco_lex.specs.declared.place.Place.{Place}
 use Rattle.std.proofs.lemmas.List.Folds.{flat_map-map}
-use Rattle.heco_print.specs.Statements.{loop, loop_head, braces, block, choice, choice_head, otherwise, stmt_step, spelled_stmt}
+use Rattle.heco_print.specs.Statements.{loop, loop_head, block, choice, choice_head, otherwise, stmt_step, spelled_stmt}
 use Rattle.heco_syntax.specs.declared.lexeme.Lexeme.{Lexeme}
 use Rattle.heco_syntax.specs.declared.tree.Expr.{Expr}
 use Rattle.heco_syntax.specs.declared.tree.Ident.{Ident}

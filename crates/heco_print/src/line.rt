@@ -2,9 +2,8 @@ ghost use Rattle.std.specs.Prelude.{◌≡◌, ◌++◌, IfOk, OnOk};
 ghost use Rattle.heco_print.specs.Lines.{fixed_text, text_of, spaced_text, line_of};
 
 use heco_lex::TokenKind;
-use heco_nums::{Bytes, Memory};
+use heco_nums::{Bytes, Memory, put_number};
 use heco_syntax::Lexeme;
-use itoa::Buffer;
 use std::alloc::Global;
 
 fn fixed_text(kind: TokenKind) -> &'static [u8]
@@ -46,10 +45,7 @@ fn put_text(t: &Lexeme, out: &mut Bytes) -> Result<(), Memory>
 {
     match t.kind {
         TokenKind::Word => out.extend_from_slice(t.text.as_slice()),
-        TokenKind::Number => {
-            let mut digits = Buffer::new();
-            out.extend_from_slice(digits.format(t.value).as_bytes())
-        }
+        TokenKind::Number => put_number(out, u128::from(t.value)),
         kind => out.extend_from_slice(fixed_text(kind)),
     }
 }

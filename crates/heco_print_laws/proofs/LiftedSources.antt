@@ -6,7 +6,7 @@ use Rattle.heco_lex.specs.declared.token.TokenKind.TheVariants as k
 use Rattle.heco_syntax.specs.Erasure.{IsLike, Alike, alike_nil, nowhere, bare, bare_ident, bare_num, bare_some, bare_stmt_step, bare_stmt, bare_param, bare_def, bare_source}
 use Rattle.heco_syntax.specs.Parts.{place_of, ident_of, num_of, with_place, comma, comma_by, def_sign, def_sign_by, set_op, set_op_of, direction, direction_of, first_of, first_by}
 use Rattle.heco_syntax.specs.Productions.{Spells, IsOne, IsKnown, IsNothing, Then, Many, none, more}
-use Rattle.heco_syntax.specs.Sources.{IsSource, IsBlock, block_or, no_block}
+use Rattle.heco_syntax.specs.Sources.{IsSource, IsBlock, block_or}
 use Rattle.heco_syntax.specs.Sources as g
 use Rattle.heco_syntax.specs.declared.first.First.{First}
 use Rattle.heco_syntax.specs.declared.first.First.TheVariants as first

@@ -12,7 +12,7 @@ use Rattle.heco_print.specs.Statements.{spelled_source, spelled_stmt, stmt_step}
 use Rattle.heco_print.specs.Statements as spec
 use Rattle.heco_syntax.specs.Parts.{place_of, ident_of, def_sign, set_op, direction, first_of, first_by}
 use Rattle.heco_syntax.specs.Productions.{Spells, IsOne, IsNothing, Then, Many, none, more}
-use Rattle.heco_syntax.specs.Sources.{IsSource, IsBlock, block_or, no_block}
+use Rattle.heco_syntax.specs.Sources.{IsSource, IsBlock, block_or}
 use Rattle.heco_syntax.specs.Sources as g
 use Rattle.heco_syntax.specs.declared.first.First.{First}
 use Rattle.heco_syntax.specs.declared.first.First.TheVariants as first

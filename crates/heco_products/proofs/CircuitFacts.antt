@@ -10,7 +10,7 @@ use Rattle.std.proofs.lemmas.List.Folds.{list_any_at}
 use Rattle.heco_circuit.specs.Circuits.{IsCircuit}
 use Rattle.heco_circuit.specs.Plans.{Plan as Circuit, push, is_input, is_output, names_input, wire_parts}
 use Rattle.heco_circuit.specs.declared.gate.Output.{Output}
-use Rattle.heco_fields.specs.Runs.{all_along}
+use Rattle.heco_nums.specs.Runs.{all_along}
 use Rattle.heco_nums.specs.Presets.{modulus_of, slots_of}
 use Rattle.heco_nums.specs.declared.shape.Shape.{Shape}
 use Rattle.heco_texts.specs.Answers.{HaveOwnNames}

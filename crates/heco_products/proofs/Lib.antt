@@ -1,4 +1,3 @@
-pub mod OnePreset
 pub mod CircuitFacts
 pub mod Products
 pub mod Pairs

@@ -1,4 +1,3 @@
-pub mod PresetRows
 pub mod KeyProducts
 pub mod Encrypting
 pub mod Decrypting

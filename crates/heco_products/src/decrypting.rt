@@ -124,7 +124,7 @@ pub(crate) fn printed(
 ) -> Result<Bytes, Memory>
     ensures { IfOk result (λ text. text ≡ output_text (map shape_of circuit.now.outputs) (map (output_values slots.now) circuit.now.outputs)) }
 {
-    let _ = circuit.preset();
+    let _valid = circuit.preset();
     let outputs = circuit.outputs().as_slice();
     let shapes = shapes_of(alloc, outputs)?;
     let rows = rows_of(alloc, slots, outputs)?;

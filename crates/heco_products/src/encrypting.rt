@@ -76,7 +76,7 @@ pub fn encrypted_inputs(
     ensures two { IfOk result (λ cs. All (λ c. length c ≡ 2) cs.items) }
     ensures formula { IfOk result (λ cs. cs.items ≡ encrypted_inputs key.now.preset (lists_of key.now) material.now.rows inputs.now.rows) }
 {
-    let _ = circuit.preset();
+    let _valid = circuit.preset();
     encrypt_inputs(alloc, key, material, inputs.rows.as_slice())
 }
 

@@ -106,7 +106,7 @@ pub fn encrypted_pairs(
     ensures two { IfOk result (λ cs. All (λ c. length c ≡ 2) cs.items) }
     ensures formula { IfOk result (λ cs. cs.items ≡ encrypted_pairs key.now.preset (lists_of key.now) material.now.rows first.now.rows second.now.rows) }
 {
-    let _ = circuit.preset();
+    let _valid = circuit.preset();
     encrypt_pairs(
         alloc,
         key,

@@ -44,7 +44,7 @@ pub fn output_wires(alloc: Global, circuit: &Circuit) -> Result<Vec<bool>, Memor
     ensures marked { IfOk result (λ wires. wires.items ≡ output_wires circuit.now) }
     ensures few { IfOk result (λ wires. length wires.items < 2 ^ 26) }
 {
-    let _ = circuit.preset();
+    let _valid = circuit.preset();
     let count = circuit.inputs().len() + circuit.gates().len();
     let mut wires = vec![in alloc; false; count]?;
     mark_outputs(circuit.outputs().as_slice(), wires.as_mut_slice());

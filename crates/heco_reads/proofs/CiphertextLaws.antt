@@ -11,7 +11,7 @@ use Rattle.heco_files.proofs.Lengths.{ciphertexts_spans}
 use Rattle.heco_files.proofs.Once.{ciphertexts_once, ciphertexts_short}
 use Rattle.heco_files.proofs.Spans.{Any}
 use Rattle.heco_key_files.specs.Judging.{Answers}
-use Rattle.heco_key_files.specs.declared.error.FileErr.{FileErr}
+use Rattle.heco_lists.specs.declared.error.FileErr.{FileErr}
 use Rattle.heco_nums.specs.declared.preset.Preset.{Preset}
 use Rattle.heco_jobs.specs.declared.outcome.Outcome.{Outcome}
 use Rattle.heco_jobs.specs.Stages.{Judges, seen}

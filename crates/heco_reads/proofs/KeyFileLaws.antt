@@ -8,14 +8,13 @@ use Rattle.heco_files.proofs.Once.{secret_once, secret_short, evaluation_once, e
 use Rattle.heco_files.proofs.Spans.{Any}
 use Rattle.heco_key_files.specs.Judging.{HasCause, Answers}
 use Rattle.heco_key_files.specs.KeyFiles.{EvalLists, AreEvalLists, evaluation, eval_text, secret_text}
-use Rattle.heco_key_files.specs.declared.error.FileErr.{FileErr}
-use Rattle.heco_key_files.specs.declared.error.FileErr.TheVariants as file
+use Rattle.heco_lists.specs.declared.error.FileErr.{FileErr}
+use Rattle.heco_lists.specs.declared.error.FileErr.TheVariants as file
 use Rattle.heco_lists.specs.ListFormat.{sparse}
 use Rattle.heco_nums.proofs.PresetFacts.{facts}
 use Rattle.heco_nums.specs.declared.preset.Preset.{Preset}
-use Rattle.heco_scheme.specs.Bounds.{IsSparse}
+use Rattle.heco_nums.specs.MaterialBounds.{IsSparse}
 use Rattle.heco_jobs.specs.declared.outcome.Outcome.{Outcome}
-use Rattle.heco_jobs.specs.declared.outcome.Outcome.TheVariants.{Ok as Fine, Refused, ReadFault, WriteFault, Memory}
 use Rattle.heco_jobs.specs.declared.outcome.Refusal.{Refusal}
 use Rattle.heco_jobs.specs.declared.outcome.Refusal.TheVariants.{Malformed, WrongPreset, Count}
 use Rattle.heco_jobs.specs.Stages.{Judges, seen}

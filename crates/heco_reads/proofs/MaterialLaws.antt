@@ -1,5 +1,5 @@
 -- Key material and encryption material: each is read as one thing alone, judged as its reader says, and known by its first bytes, one more than it has.
-use Rattle.std.proofs.Common.{◌≡◌, ◌≢◌, ◌≤◌, ◌<◌, ◌+◌, ℕ, List, length, take, Result, Ok, Err, refl, sym, ap, subst, inl, inr, arith, ◌∙◌}
+use Rattle.std.proofs.Common.{◌≡◌, ◌≢◌, ◌+◌, ℕ, List, length, take, Result, Ok, Err, refl, sym, ap, subst, inl, inr, arith, ◌∙◌}
 use Rattle.std.specs.Prelude.{IfOk, IfErr, min}
 use Rattle.std.proofs.lemmas.Bool.{cases_lt}
 use Rattle.std.proofs.lemmas.List.{length-take-le}
@@ -16,7 +16,6 @@ use Rattle.heco_material.specs.declared.words.EncRow.{EncRow}
 use Rattle.heco_nums.proofs.PresetFacts.{facts}
 use Rattle.heco_nums.specs.declared.preset.Preset.{Preset}
 use Rattle.heco_jobs.specs.declared.outcome.Outcome.{Outcome}
-use Rattle.heco_jobs.specs.declared.outcome.Outcome.TheVariants.{Ok as Fine, Refused, ReadFault, WriteFault, Memory}
 use Rattle.heco_jobs.specs.declared.outcome.Refusal.{Refusal}
 use Rattle.heco_jobs.specs.declared.outcome.Refusal.TheVariants.{Length, Bounds}
 use Rattle.heco_jobs.specs.Stages.{Judges, seen}

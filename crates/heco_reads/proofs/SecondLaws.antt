@@ -1,6 +1,5 @@
 -- A second text of inputs is read as a first one is, and refused by names of its own.
-use Rattle.std.proofs.Common.{◌≡◌, ℕ, List, Result, Ok, Err}
-use Rattle.std.specs.Prelude.{IfErr}
+use Rattle.std.proofs.Common.{ℕ, List, Ok, Err}
 use Rattle.heco_nums.specs.declared.shape.Shape.{Shape}
 use Rattle.heco_nums.specs.declared.shape.Values.{Values}
 use Rattle.heco_outside.specs.declared.store.Call.{Call}
@@ -11,7 +10,7 @@ use Rattle.heco_jobs.specs.Outsides.{Files}
 use Rattle.heco_jobs.specs.Stages.{IsReadCause, IsThingRead, ReadsThing}
 use Rattle.heco_jobs.specs.declared.outcome.Outcome.{Outcome}
 use Rattle.heco_jobs.specs.declared.outcome.Outcome.TheVariants.{Ok as Fine, Refused, ReadFault, WriteFault, Memory}
-use Rattle.heco_jobs.specs.declared.outcome.Refusal.TheVariants.{Usage, InputLong, InputAt, InputMissing}
+use Rattle.heco_jobs.specs.declared.outcome.Refusal.TheVariants.{InputLong, InputAt, InputMissing}
 use Rattle.heco_reads.specs.SourceFiles.{IsTextRefusal, IsSecondTextRefusal, second_answer}
 
 second_cause : (which before now : ℕ) (o : Outcome) → IsReadCause which before now o → IsReadCause which before now (second_answer o)

@@ -2,11 +2,11 @@
 use Rattle.std.specs.Prelude.{◌≡◌, ℕ, List, codes, ℤ}
 use Rattle.heco_key_files.specs.Judging.{HasCause}
 use Rattle.heco_key_files.specs.KeyFiles.{EvalLists, AreEvalLists, evaluation, eval_text, secret_text}
-use Rattle.heco_key_files.specs.declared.error.FileErr.{FileErr}
-use Rattle.heco_key_files.specs.declared.error.FileErr.TheVariants as file
+use Rattle.heco_lists.specs.declared.error.FileErr.{FileErr}
+use Rattle.heco_lists.specs.declared.error.FileErr.TheVariants as file
 use Rattle.heco_lists.specs.ListFormat.{sparse}
 use Rattle.heco_nums.specs.declared.preset.Preset.{Preset}
-use Rattle.heco_scheme.specs.Bounds.{IsSparse}
+use Rattle.heco_nums.specs.MaterialBounds.{IsSparse}
 use Rattle.heco_jobs.specs.declared.outcome.Outcome.{Outcome}
 use Rattle.heco_jobs.specs.declared.outcome.Outcome.TheVariants.{Refused, Memory}
 use Rattle.heco_jobs.specs.declared.outcome.Refusal.{Refusal}

@@ -17,4 +17,4 @@ pub use key_files::{read_evaluation, read_secret};
 pub use material_file::read_material;
 pub use second_file::read_second_inputs;
 pub use source::read_source;
-pub use values_file::{read_inputs, read_values};
+pub use values_file::{read_inputs, read_values_file};

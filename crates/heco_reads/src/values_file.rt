@@ -38,7 +38,7 @@ fn judge_values(alloc: Global, typed: &Typed, text: &[u8]) -> Result<Inputs, Out
 }
 
 /// The values that this file word gives to the inputs of the source.
-pub fn read_values<S: Store>(
+pub fn read_values_file<S: Store>(
     alloc: Global,
     typed: &Typed,
     words: &[String],

@@ -1,12 +1,12 @@
 -- Dropping the gates that no output needs.
-use Rattle.std.proofs.Common.{◌≡◌, ℕ, zero, suc, ◌+◌, ◌<◌, ◌≤◌, List, [], ◌∷◌, ◌++◌, length, refl, ap, sym, ◌∙◌, arith, get_or, inl, inr, Bool, true, false, ◌&&◌, ◌||◌, eqb, subst, length-append}
-use Rattle.std.specs.Prelude.{Contains, slice_get, slice_index, Some, None}
+use Rattle.std.proofs.Common.{◌≡◌, ℕ, zero, suc, ◌+◌, ◌<◌, List, [], ◌∷◌, ◌++◌, length, refl, ap, sym, ◌∙◌, arith, inl, inr, Bool, true, false, ◌&&◌, ◌||◌, eqb, subst}
+use Rattle.std.specs.Prelude.{Contains, slice_get, slice_index, Some}
 use Rattle.std.specs.List.{range_with_len}
 use Rattle.std.proofs.lemmas.Bool.{cases_lt, eqb-true, eq-eqb}
 use Rattle.std.proofs.lemmas.List.{get_or_append_left, get_or_push}
 use Rattle.std.proofs.lemmas.List.FromFn.{length-range_with_len, get_or-range_with_len}
 use Rattle.heco_nums.specs.Presets.{modulus_of, slots_of}
-use Rattle.heco_fields.specs.Runs.{along, all_along}
+use Rattle.heco_nums.specs.Runs.{along, all_along}
 use Rattle.heco_fields.proofs.Bools.{both_true, and_true}
 use Rattle.heco_fields.proofs.Loops.{along_push}
 use Rattle.heco_circuit.specs.declared.gate.Gate.{Gate}
@@ -80,7 +80,7 @@ pub record Copied (id : ℕ) (vs : List (List ℕ)) (need : ℕ → Bool) (start
   pub each : (a : ℕ) → a < length old.parts → need a ≡ true → StandsFor old (along (behind id vs) start s.gates) a (slice_index s.names a)
   pub formed : all_along (is_gate (modulus_of id) (slots_of id) (length vs)) with_gate start.parts s.gates ≡ true
 
-keeps_itself : (vs : List (List ℕ)) → Keeps vs vs
+pub keeps_itself : (vs : List (List ℕ)) → Keeps vs vs
 keeps_itself vs = record { few = omega arith; each = λ v l. refl }
 
 copied_where : (id : ℕ) (vs : List (List ℕ)) (need : ℕ → Bool) (start old : Wires) (s : Kept) (g : Gate) → Copied id vs need start old s → is_gate (modulus_of id) (slots_of id) (length vs) old.parts g ≡ true

@@ -4,3 +4,4 @@ pub mod Named
 pub mod Along
 pub mod Dropping
 pub mod Full
+pub mod Outputs

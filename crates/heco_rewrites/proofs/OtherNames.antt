@@ -1,11 +1,11 @@
 -- A gate over other names does what the gate does, and has no greater bound.
-use Rattle.std.proofs.Common.{◌≡◌, ℕ, ◌+◌, ◌*◌, ◌<◌, ◌≤◌, List, [], ◌∷◌, length, map, refl, ap, sym, ◌∙◌, arith, get_or, ◌-◌, ◌%◌, true, ltb, eqb}
+use Rattle.std.proofs.Common.{◌≡◌, ℕ, ◌+◌, ◌*◌, ◌<◌, ◌≤◌, List, [], ◌∷◌, length, map, refl, ap, sym, ◌∙◌, arith, ◌-◌, ◌%◌, true, ltb, eqb}
 use Rattle.std.specs.Prelude.{Contains, slice_index}
 use Rattle.std.specs.Int.RustNames.{unsigned_abs}
 use native.Mathlib.Nat.{mul-le-mul_left}
 use Rattle.std.proofs.lemmas.Bool.{lt-ltb, ltb-true}
 use Rattle.std.proofs.lemmas.List.{get_or-map}
-use Rattle.heco_nums.specs.Presets.{degree_of, modulus_of, weight_of, error_of}
+use Rattle.heco_nums.specs.Presets.{degree_of, modulus_of, hamming_weight_of, error_of}
 use Rattle.heco_nums.specs.Arithmetic.{centre_t}
 use Rattle.heco_noise.specs.Rows as rows
 use Rattle.heco_fields.proofs.Bools.{both_true, and_true}
@@ -13,7 +13,7 @@ use Rattle.heco_circuit.specs.declared.gate.Gate.{Gate}
 use Rattle.heco_circuit.specs.declared.gate.Gate.TheVariants.{Neg, Add, Sub, Mul, Relin, Scale, Shift, Turn, Weigh}
 use Rattle.heco_circuit.specs.Validity.{parts_of, is_gate, is_wire, has_parts, is_between}
 use Rattle.heco_circuit.specs.Bounds.{bound_of, weights_of, vector_weight_of}
-use Rattle.heco_meaning.specs.Meanings.{wire_at, wire_of, sums, differences, products, turned}
+use Rattle.heco_meaning.specs.Meanings.{wire_of, turned}
 use Rattle.heco_rewrites.specs.Wires.{Wires, operands, over, StandsFor, OperandsStand, Keeps}
 
 pub first : (x : ℕ) (xs : List ℕ) → Contains (x ∷ xs) x
@@ -75,7 +75,7 @@ over_bound id t slots vs ws name old new (Neg a) k h v = (h a (first a [])).boun
 over_bound id t slots vs ws name old new (Add a b) k h v = added_grows _ _ _ _ (h a (first a (b ∷ []))).bounds (h b (second a b)).bounds
 over_bound id t slots vs ws name old new (Sub a b) k h v = added_grows _ _ _ _ (h a (first a (b ∷ []))).bounds (h b (second a b)).bounds
 over_bound id t slots vs ws name old new (Mul a b) k h v =
-    multiplied_grows (degree_of id) (modulus_of id) (weight_of id) _ _ _ _ (h a (first a (b ∷ []))).bounds (h b (second a b)).bounds
+    multiplied_grows (degree_of id) (modulus_of id) (hamming_weight_of id) _ _ _ _ (h a (first a (b ∷ []))).bounds (h b (second a b)).bounds
 over_bound id t slots vs ws name old new (Relin a) k h v = turned_grows (modulus_of id) (degree_of id) (error_of id) _ _ (h a (first a [])).bounds
 over_bound id t slots vs ws name old new (Scale c a) k h v = scaled_grows (modulus_of id) c _ _ (h a (first a [])).bounds
 over_bound id t slots vs ws name old new (Shift c a) k h v = shifted_grows (modulus_of id) _ _ (h a (first a [])).bounds

@@ -1,5 +1,4 @@
 -- What a gate keeps over wires that stand for its operands, together.
-use Rattle.std.proofs.Common.{ℕ}
 use Rattle.heco_nums.specs.Presets.{modulus_of, slots_of}
 use Rattle.heco_rewrites.specs.Renaming.{GatesMayBeRenamed}
 use Rattle.heco_rewrites.proofs.OtherNames.{over_parts, over_bound, over_slots, over_is_gate}

@@ -1,7 +1,10 @@
-ghost use Rattle.std.specs.Prelude.{◌≡◌, slice_index};
+ghost use Rattle.std.specs.Prelude.{◌≡◌, slice_index, IfOk};
+ghost use Rattle.std.specs.List.{range_with_len};
 ghost use Rattle.heco_rewrites.specs.Wires.{over};
 
 use heco_circuit::Gate;
+use heco_nums::{List, Memory};
+use std::alloc::Global;
 
 /// The name of a wire, one of the names of all wires in order.
 pub fn name_at(names: &[u32], wire: u32) -> u32
@@ -11,6 +14,17 @@ pub fn name_at(names: &[u32], wire: u32) -> u32
         Some(name) => *name,
         None => 0,
     }
+}
+
+/// The names of so many inputs, each of which keeps its number.
+pub fn input_names(alloc: Global, inputs: u32) -> Result<List<u32>, Memory>
+    ensures { IfOk result (λ names. names ≡ range_with_len 0 inputs) }
+{
+    let mut names = List::new(alloc);
+    for i in 0..inputs {
+        names.push(i)?;
+    }
+    Ok(names)
 }
 
 /// The gate over the wires of these names.

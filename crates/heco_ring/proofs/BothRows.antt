@@ -16,7 +16,7 @@ use Rattle.heco_ring.proofs.Integers.{z_mul_zero}
 use Rattle.heco_ring.proofs.Pairing.{at-table}
 use Rattle.heco_ring.proofs.Powers.{one_mod}
 use Rattle.heco_ring.proofs.Remainders.{rem_cong, cong_mul, cong_refl, cong_sum, cong_eq, rem_nat}
-use Rattle.heco_ring.proofs.RoundTrip.{Roots, roots, both, both_odd, kernel_other, kernel_same, less_one, regroup, last, sum_ones, cong_one_term, sum_of_even}
+use Rattle.heco_ring.proofs.RoundTrip.{Roots, roots, both, kernel_other, kernel_same, less_one, regroup, last, sum_ones, cong_one_term, sum_of_even}
 use Rattle.heco_ring.proofs.SlotLaws.{pow-mul, value_same, value_plus, three_odd}
 use Rattle.heco_ring.proofs.Sums.{sum_ext, sum_zero}
 

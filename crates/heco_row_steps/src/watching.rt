@@ -1,5 +1,5 @@
 ghost use Rattle.std.specs.Prelude.{◌≡◌, [], None};
-ghost use Rattle.heco_row_steps.specs.Silent.{silent_rule};
+ghost use Rattle.heco_peep.specs.Silent.{silent_rule};
 
 use heco_peep::{Pass, Swap, Window};
 use std::cell::Cell;

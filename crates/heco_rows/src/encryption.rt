@@ -2,7 +2,7 @@ ghost use Rattle.std.specs.Prelude.{◌≡◌, ◌<◌, ◌≤◌, List, All, le
 ghost use lib.IntN.{ℤ};
 ghost use Rattle.heco_noise.specs.Rows as row;
 ghost use Rattle.heco_material.specs.declared.words.EncRow.{EncRow as Row};
-ghost use Rattle.heco_scheme.specs.Bounds.{AreErrors, IsSparse};
+ghost use Rattle.heco_nums.specs.MaterialBounds.{AreErrors, IsSparse};
 ghost use Rattle.heco_scheme.specs.Ciphertexts.{IsCiphertext};
 ghost use Rattle.heco_scheme.specs.Encryption.{encrypted};
 ghost use Rattle.heco_scheme.specs.Keys.{IsPublicKey};

@@ -9,7 +9,7 @@ ghost use Rattle.heco_run.specs.Refusals.{opening_refusal, IsCause};
 ghost use Rattle.heco_run.specs.Making.{keys_of};
 ghost use Rattle.heco_run.specs.Results.{kept, IsRun};
 ghost use Rattle.heco_run.specs.Shapes.{AreTwoParts};
-ghost use Rattle.heco_run.specs.Spares.{HasSpare, advanced_by_all};
+ghost use Rattle.heco_run.specs.inside.Spares.{HasSpare, advanced_by_all};
 
 use crate::error::RunErr;
 use crate::work::Work;

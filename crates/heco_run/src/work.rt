@@ -95,7 +95,7 @@ impl<'c> Work<'c> {
     pub fn circuit(&self) -> &Circuit
         ensures { result.now ≡ self.now.circuit }
     {
-        let _ = self.alloc;
+        let _valid = self.alloc;
         self.circuit
     }
 
@@ -103,7 +103,7 @@ impl<'c> Work<'c> {
     pub fn board(&self) -> &Board
         ensures { result.now ≡ record { circuit = wiring self.now.circuit; standing = self.now.world.standing } }
     {
-        let _ = self.alloc;
+        let _valid = self.alloc;
         &self.bench.board
     }
 

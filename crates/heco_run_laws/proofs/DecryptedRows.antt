@@ -3,7 +3,7 @@ use Rattle.std.proofs.Common.{◌≡◌, ◌∙◌, ℕ, ◌*◌, ◌^◌, ◌<�
 use Rattle.std.proofs.lemmas.List.{ext_get_or, get_or-map}
 use Rattle.heco_nums.specs.declared.preset.Preset.{Preset}
 use Rattle.heco_nums.proofs.PresetFacts.{facts}
-use Rattle.heco_fields.specs.Runs.{along}
+use Rattle.heco_nums.specs.Runs.{along}
 use Rattle.heco_circuit.specs.Bounds.{weights_of, wire_bounds}
 use Rattle.heco_circuit.specs.Plans.{wire_parts}
 use Rattle.heco_meaning.specs.Meanings.{with_wire, wires_of}

@@ -6,7 +6,7 @@ use lib.IntN.{ℤ}
 use Rattle.heco_nums.specs.Presets.{modulus_of, slots_of}
 use Rattle.heco_nums.specs.declared.preset.Preset.{Preset}
 use Rattle.heco_nums.proofs.Amounts.{any_passing}
-use Rattle.heco_fields.specs.Runs.{all_along}
+use Rattle.heco_nums.specs.Runs.{all_along}
 use Rattle.heco_circuit.specs.Circuits.{IsCircuit}
 use Rattle.heco_circuit.specs.Needs.{is_relin, turns_by, needs_relin, needed_turns, needed_keys}
 use Rattle.heco_circuit.specs.Plans.{Plan, input_parts}
@@ -19,7 +19,7 @@ use Rattle.heco_run_laws.specs.Carried.{HasKey, HaveKeys}
 use Rattle.heco_run_laws.specs.Runs.{Rows, turn_keys, rows_beside}
 use Rattle.heco_run_laws.proofs.FoundKeys.{turn_key_at, length-turn_keys}
 use Rattle.heco_run_laws.proofs.Wires.{formed_gates}
-use Rattle.heco_scheme.specs.Keys.{square, turned, IsSwitchKey}
+use Rattle.heco_scheme.specs.Keys.{square, turned_secret, IsSwitchKey}
 use Rattle.heco_run_laws.specs.CircuitKeys.{circuit_rows, switch_keys}
 use Rattle.heco_keys.proofs.MadeRows.{length-all, made_switch, relin_source, turn_source}
 
@@ -54,14 +54,14 @@ module _ (p : Preset) (c : Plan) (k : KeyLists) (material : IsKeyMaterial p.n p.
   many = length-all p.n k.s (needs_relin c) (needed_turns c) k.switch ∙ material.count
 
   turn_key : (j : ℕ) → j < length (needed_turns c)
-      → IsSwitchKey p.n p.b k.s (turned p.n k.s (get_or (needed_turns c) j 0)) (get_or (turn_keys (needs_relin c) (circuit_rows p.n c k)) j [])
+      → IsSwitchKey p.n p.b k.s (turned_secret p.n k.s (get_or (needed_turns c) j 0)) (get_or (turn_keys (needs_relin c) (circuit_rows p.n c k)) j [])
   turn_key j l =
       rw (turn_key_at (needs_relin c) j (circuit_rows p.n c k), ← (turn_source p.n k.s (needs_relin c) (needed_turns c) j))
       (made_switch p.n k.s (needs_relin c) (needed_turns c) k.switch p.b ((if needs_relin c then 1 else 0) + j) material.switch (inside ((if needs_relin c then 1 else 0) + j) (omega arith)))
 
-  turn_key_of : (r : ℕ) → 1 ≤ r → r ≤ slots_of c.preset - 1 → list_any (turns_by r) c.gates ≡ true → IsSwitchKey p.n p.b k.s (turned p.n k.s r) ((switch_keys p.n c k).turn r)
+  turn_key_of : (r : ℕ) → 1 ≤ r → r ≤ slots_of c.preset - 1 → list_any (turns_by r) c.gates ≡ true → IsSwitchKey p.n p.b k.s (turned_secret p.n k.s r) ((switch_keys p.n c k).turn r)
   turn_key_of r low high h =
-      beside_all (λ t rows. IsSwitchKey p.n p.b k.s (turned p.n k.s t) rows) r (needed_turns c) (turn_keys (needs_relin c) (circuit_rows p.n c k))
+      beside_all (λ t rows. IsSwitchKey p.n p.b k.s (turned_secret p.n k.s t) rows) r (needed_turns c) (turn_keys (needs_relin c) (circuit_rows p.n c k))
       (length-turn_keys (needs_relin c) (circuit_rows p.n c k) (length (needed_turns c)) many) turn_key
       (any_passing (λ t. list_any (turns_by t) c.gates) 1 (slots_of c.preset - 1) r (low, omega arith, h))
 

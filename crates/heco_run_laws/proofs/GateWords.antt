@@ -10,7 +10,7 @@ use Rattle.heco_nums.specs.declared.preset.Preset.{Preset}
 use Rattle.heco_noise_laws.specs.Noise.{round_part}
 use Rattle.heco_ring.specs.Remainders.{reduced}
 use Rattle.heco_keys.proofs.MadeRows.{reduced_words}
-use Rattle.heco_scheme.specs.Bounds.{AreWords}
+use Rattle.heco_nums.specs.MaterialBounds.{AreWords}
 use Rattle.heco_scheme.specs.Ciphertexts.{parts}
 use Rattle.heco_scheme.specs.Encryption.{encrypted}
 use Rattle.heco_scheme.specs.Gates.{added, subtracted, negated, scaled_by, times_each, weighed, shifted, multiplied, switched, relinearised, turned}

@@ -5,6 +5,7 @@ use Rattle.std.proofs.lemmas.Nat.{mod-mul-add}
 use Rattle.std.proofs.lemmas.List.{ext_get_or, get_or-map, length-map, length-append, length-drop, length-take-le, get_or_append_left, get_or-append_right, get_or-drop, get_or-take}
 use Rattle.heco_nums.specs.declared.preset.Preset.{Preset}
 use Rattle.heco_nums.proofs.PresetFacts.{facts}
+use Rattle.heco_nums.proofs.PresetFacts.{some_slots}
 use Rattle.heco_meaning.specs.Meanings.{sums, differences, products, turned}
 use Rattle.heco_slots.specs.Messages as message
 use Rattle.heco_ring.specs.Slots.{value}
@@ -72,9 +73,6 @@ slot_below : (p : Preset) (e : ℕ) (m : List ℕ) (j : ℕ) → slot_in p e m j
 unfolding slot_in value
 slot_below p e m j = rem-lt p.t _ (facts p).t_pos
 
-slots_pos : (n s : ℕ) → 0 < n → n ≡ 2 * s → 0 < s
-slots_pos n s p e = omega arith
-
 module _ (p : Preset) (e : ℕ) where
   pub row_sum : (m l : List ℕ) → row_of p e (message.sum p m l) ≡ sums p.t (row_of p e m) (row_of p e l)
   row_sum m l =
@@ -131,6 +129,6 @@ module _ (p : Preset) (e : ℕ) where
       let within : r ≤ length (row_of p e m) = omega arith in
       ext_get_or 0 _ _ (row_long p e (message.turned p r m) ∙ sym (length-turned r (row_of p e m) within ∙ long)) (λ j h.
       let lt : j < p.slots = omega (arith, row_long p e (message.turned p r m)) in
-      let some : 0 < p.slots = slots_pos p.n p.slots (facts p).n_pos (facts p).slots_half in
+      let some : 0 < p.slots = some_slots p in
       row_at p e (message.turned p r m) j lt ∙ in_turned p e r m j odd ∙ sym (row_at p e m ((j + r) % p.slots) (mod-lt (j + r) some))
       ∙ sym (turned_at r (row_of p e m) j within (omega arith) ∙ ap (λ n. get_or (row_of p e m) ((j + r) % n) 0) long))

@@ -7,20 +7,21 @@ use Rattle.std.proofs.lemmas.List.Elements.{All-append, All-replicate, All-head,
 use Rattle.heco_nums.specs.Presets.{modulus_of, slots_of}
 use Rattle.heco_nums.specs.declared.preset.Preset.{Preset}
 use Rattle.heco_nums.proofs.PresetFacts.{facts}
-use Rattle.heco_fields.specs.Runs.{along, all_along}
+use Rattle.heco_nums.specs.Runs.{along, all_along}
 use Rattle.heco_circuit.specs.Plans.{Plan, input_parts}
 use Rattle.heco_circuit.specs.Validity.{is_wire, has_parts, is_between, is_gate, parts_of, with_gate}
 use Rattle.heco_circuit.specs.declared.gate.Gate.{Gate}
 use Rattle.heco_circuit.specs.declared.gate.Gate.TheVariants.{Neg, Add, Sub, Mul, Relin, Scale, Shift, Turn, Weigh}
+use Rattle.heco_circuit.proofs.Lengths.{length-input_parts}
 use Rattle.heco_meaning.specs.Meanings.{sums, differences, products, turned, filled, wire_of, with_wire, wires_of}
 use Rattle.heco_slots.specs.Messages as message
 use Rattle.heco_slots.specs.Rows.{first_row, second_row, row_of, encoded_two}
 use Rattle.heco_run_laws.proofs.RowLists.{row_sum, row_difference, row_product, row_opposite, row_multiple, row_raised, row_turned, row_weighed}
 use Rattle.heco_slots.proofs.BothRows.{first_comes_back, second_comes_back}
 use Rattle.heco_run_laws.specs.Messages.{message_by, with_message, messages_along}
-use Rattle.heco_run_laws.specs.Carried.{FitsRow, IsRow, MessagesMeanTheirRows, RowsAreIndependent, two_row_messages}
+use Rattle.heco_run_laws.specs.Carried.{FitsRow, IsRowExponent, MessagesMeanTheirRows, RowsAreIndependent, two_row_messages}
 use Rattle.heco_run_laws.proofs.CircuitVectors.{IsWhole, circuit_vectors}
-use Rattle.heco_run_laws.proofs.Wires.{circuit_gates, is_inside, length-input_parts}
+use Rattle.heco_run_laws.proofs.Wires.{circuit_gates, is_inside}
 
 map_pushed : {A B : Type 0} (f : A → B) (xs : List A) (y : A) → map f (xs ++ y ∷ []) ≡ map f xs ++ f y ∷ []
 map_pushed f [] y = refl
@@ -34,22 +35,22 @@ odd_second p = minus_one_odd p.n (facts p).n_pos
     minus_one_odd : (n : ℕ) → 0 < n → (2 * n - 1) % 2 ≡ 1
     minus_one_odd n h = omega arith
 
-row_odd : (p : Preset) (e : ℕ) → IsRow p e → e % 2 ≡ 1
+row_odd : (p : Preset) (e : ℕ) → IsRowExponent p e → e % 2 ≡ 1
 row_odd p e (inl h) = rw h refl
 row_odd p e (inr h) = rw h (odd_second p)
 
 -- a plain vector comes back from either
-row_back : (p : Preset) (e : ℕ) → IsRow p e → (v : List ℕ) → IsWhole p.t p.slots v → row_of p e (encoded_two p v v) ≡ v
+row_back : (p : Preset) (e : ℕ) → IsRowExponent p e → (v : List ℕ) → IsWhole p.t p.slots v → row_of p e (encoded_two p v v) ≡ v
 row_back p e (inl h) v is = rw h (first_comes_back p v v is.0 is.1)
 row_back p e (inr h) v is = rw h (second_comes_back p v v is.0 is.1)
 
 -- so it weighs both rows
-pub vector_weighs : (p : Preset) (e : ℕ) (v m : List ℕ) → IsRow p e → length v ≡ p.slots → All (λ x. x < p.t) v → row_of p e (message.weighed p v m) ≡ products p.t v (row_of p e m)
+pub vector_weighs : (p : Preset) (e : ℕ) (v m : List ℕ) → IsRowExponent p e → length v ≡ p.slots → All (λ x. x < p.t) v → row_of p e (message.weighed p v m) ≡ products p.t v (row_of p e m)
 vector_weighs p e v m row long below = row_weighed p e v m (row_odd p e row) (row_back p e row v (long, below))
 
 -- ---- the gates
 
-module _ (p : Preset) (e : ℕ) (row : IsRow p e) (vectors : List (List ℕ)) (are : All (IsWhole p.t p.slots) vectors) where
+module _ (p : Preset) (e : ℕ) (row : IsRowExponent p e) (vectors : List (List ℕ)) (are : All (IsWhole p.t p.slots) vectors) where
   odd : e % 2 ≡ 1
   odd = row_odd p e row
 

@@ -8,11 +8,11 @@ use Rattle.heco_circuit.specs.Circuits.{IsCircuit}
 use Rattle.heco_circuit.specs.Plans.{Plan, wire_parts}
 use Rattle.heco_circuit.specs.declared.gate.Gate.{Gate}
 use Rattle.heco_circuit.specs.declared.gate.Gate.TheVariants.{Relin, Turn}
-use Rattle.heco_fields.specs.Runs.{along}
+use Rattle.heco_nums.specs.Runs.{along}
 use Rattle.heco_meaning.specs.Meanings.{filled, with_wire, wires_of}
 use Rattle.heco_slots.specs.Rows.{first_row, second_row, row_of, encoded_two}
-use Rattle.heco_scheme.specs.Bounds.{AreWords, IsSparse}
-use Rattle.heco_scheme.specs.Keys.{IsSwitchKey, square, turned}
+use Rattle.heco_nums.specs.MaterialBounds.{AreWords, IsSparse}
+use Rattle.heco_scheme.specs.Keys.{IsSwitchKey, square, turned_secret}
 use Rattle.heco_scheme.specs.Noise.{noise}
 use Rattle.heco_slots.specs.Slots.{decoded}
 use Rattle.heco_run_laws.specs.Runs.{Ciphertext, SwitchKeys, ciphertext_at, made_by, run_of}
@@ -65,7 +65,7 @@ pub record AllCarry (p : Preset) (s : List ℤ) (parts bounds : List ℕ) (slots
 -- the switch key that the gate takes is one of the secret, with errors within bounds: from s s to relinearise, from the turned s to turn
 abbrev pub HasKey : Preset → List ℤ → SwitchKeys → Gate → Type 0
 HasKey p s keys (Relin a) = IsSwitchKey p.n p.b s (square p.n s) keys.relin
-HasKey p s keys (Turn r a) = IsSwitchKey p.n p.b s (turned p.n s r) (keys.turn r)
+HasKey p s keys (Turn r a) = IsSwitchKey p.n p.b s (turned_secret p.n s r) (keys.turn r)
 HasKey p s keys g = Unit {0}
 
 abbrev pub HaveKeys : Preset → List ℤ → SwitchKeys → List Gate → Type 0
@@ -86,13 +86,13 @@ WiresKeepTheirNoise =
     → AllKeep p s (wire_parts c) (wire_bounds c.preset (weights_of c.preset c.vectors) c.inputs c.gates) (messages_along p c messages) (run_of p keys c inputs)
 
 -- the first row or the second: a plain vector weighs each of these alike, and no other
-abbrev pub IsRow : Preset → ℕ → Type 0
-IsRow p e = (e ≡ first_row) ⊎ (e ≡ second_row p)
+abbrev pub IsRowExponent : Preset → ℕ → Type 0
+IsRowExponent p e = (e ≡ first_row) ⊎ (e ≡ second_row p)
 
 -- read in either row, the messages of a valid circuit are the wires that it means: no ciphertext is spoken of
 abbrev pub MessagesMeanTheirRows : Type 0
 MessagesMeanTheirRows =
-    (p : Preset) (e : ℕ) (c : Plan) (messages : List (List ℕ)) → IsRow p e → p.id ≡ c.preset → IsCircuit c → length messages ≡ length c.inputs
+    (p : Preset) (e : ℕ) (c : Plan) (messages : List (List ℕ)) → IsRowExponent p e → p.id ≡ c.preset → IsCircuit c → length messages ≡ length c.inputs
     → map (row_of p e) (messages_along p c messages) ≡ along (with_wire p.t c.vectors) (map (row_of p e) messages) c.gates
 
 -- the input messages of two rows of values, each filled with zeros

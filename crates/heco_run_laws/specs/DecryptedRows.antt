@@ -6,11 +6,11 @@ use Rattle.heco_circuit.specs.Circuits.{IsCircuit}
 use Rattle.heco_circuit.specs.Plans.{Plan, wire_parts}
 use Rattle.heco_meaning.specs.Meanings.{filled, wire_at, wires_of}
 use Rattle.heco_slots.specs.Rows.{first_row, second_row, row_of}
-use Rattle.heco_scheme.specs.Bounds.{AreErrors, IsSparse}
+use Rattle.heco_nums.specs.MaterialBounds.{AreErrors, IsSparse}
 use Rattle.heco_scheme.specs.Encryption.{decrypted, encrypted}
 use Rattle.heco_scheme.specs.Keys.{IsPublicKey}
 use Rattle.heco_run_laws.specs.Runs.{Ciphertext, SwitchKeys, ciphertext_at, run_of}
-use Rattle.heco_run_laws.specs.Carried.{FitsRow, IsRow, HaveKeys, IsFreshFor, two_row_messages}
+use Rattle.heco_run_laws.specs.Carried.{FitsRow, IsRowExponent, HaveKeys, IsFreshFor, two_row_messages}
 
 -- an encryption of any message, within bounds, is fresh for it
 abbrev pub EncryptionsAreFresh : Type 0
@@ -23,7 +23,7 @@ EncryptionsAreFresh =
 -- where the input messages have these rows of values, filled with zeros, in the row e, each wire decrypts to what it means for them, in that row
 abbrev pub RowsDecryptToTheMeaning : Type 0
 RowsDecryptToTheMeaning =
-    (p : Preset) (e : ℕ) (s : List ℤ) (keys : SwitchKeys) (c : Plan) (messages rows : List (List ℕ)) (inputs : List Ciphertext) → IsRow p e
+    (p : Preset) (e : ℕ) (s : List ℤ) (keys : SwitchKeys) (c : Plan) (messages rows : List (List ℕ)) (inputs : List Ciphertext) → IsRowExponent p e
     → p.id ≡ c.preset → IsCircuit c
     → IsSparse p.n p.h s → HaveKeys p s keys c.gates
     → length messages ≡ length c.inputs → AllZip (IsFreshFor p s) messages inputs → map (row_of p e) messages ≡ map (filled p.slots) rows

@@ -8,7 +8,7 @@ use Rattle.heco_circuit.specs.Bounds.{weights_of, wire_bounds}
 use Rattle.heco_circuit.specs.Circuits.{IsCircuit}
 use Rattle.heco_circuit.specs.Plans.{Plan, wire_parts}
 use Rattle.heco_slots.specs.Rows.{encoded_two}
-use Rattle.heco_scheme.specs.Bounds.{IsSparse}
+use Rattle.heco_nums.specs.MaterialBounds.{IsSparse}
 use Rattle.heco_scheme.specs.Encryption.{decrypted}
 use Rattle.heco_scheme.specs.Noise.{noise}
 use Rattle.heco_slots.specs.Slots.{encoded}

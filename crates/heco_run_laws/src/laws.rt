@@ -3,7 +3,7 @@ ghost use Rattle.heco_meaning.specs.Meanings.{sums, differences, products, turne
 ghost use Rattle.heco_nums.specs.declared.preset.Preset.{Preset};
 ghost use Rattle.heco_slots.specs.Messages as message;
 ghost use Rattle.heco_slots.specs.Rows.{row_of};
-ghost use Rattle.heco_run_laws.specs.Carried.{IsRow, MessagesMeanTheirRows, RowsAreIndependent, RunsAreInOrder, WiresCarryTheirMessages, WiresHaveTheirParts, WiresKeepTheirNoise};
+ghost use Rattle.heco_run_laws.specs.Carried.{IsRowExponent, MessagesMeanTheirRows, RowsAreIndependent, RunsAreInOrder, WiresCarryTheirMessages, WiresHaveTheirParts, WiresKeepTheirNoise};
 ghost use Rattle.heco_run_laws.specs.CircuitKeys.{MadeKeysAreForTheGates};
 ghost use Rattle.heco_run_laws.specs.DecryptedRows.{EncryptionsAreFresh, RowsDecryptToTheMeaning, TwoRowsDecryptApart};
 ghost use Rattle.heco_run_laws.specs.Measured.{EncodingsAreMessages, MeasuredNoisesKeepToTheirBounds};
@@ -89,5 +89,5 @@ pub fn rows_of_messages()
     ensures multiple { (p : Preset) (e c : ℕ) (m : List ℕ) → row_of p e (message.multiple p c m) ≡ map (λ x. (c * x) % p.t) (row_of p e m) }
     ensures shift { (p : Preset) (e c : ℕ) (m : List ℕ) → row_of p e (message.raised p c m) ≡ map (λ x. (x + c) % p.t) (row_of p e m) }
     ensures turn { (p : Preset) (e r : ℕ) (m : List ℕ) → e % 2 ≡ 1 → r ≤ p.slots → row_of p e (message.turned p r m) ≡ turned r (row_of p e m) }
-    ensures weighed { (p : Preset) (e : ℕ) (v m : List ℕ) → IsRow p e → length v ≡ p.slots → All (λ x. x < p.t) v → row_of p e (message.weighed p v m) ≡ products p.t v (row_of p e m) }
+    ensures weighed { (p : Preset) (e : ℕ) (v m : List ℕ) → IsRowExponent p e → length v ≡ p.slots → All (λ x. x < p.t) v → row_of p e (message.weighed p v m) ≡ products p.t v (row_of p e m) }
 {}

@@ -4,10 +4,11 @@ use Rattle.std.specs.List.{list_all, range_with_len}
 use Rattle.std.proofs.lemmas.Bool.{and_parts, lt-ltb}
 use Rattle.std.proofs.lemmas.List.{length-take-le, length-drop}
 use Rattle.rand_chacha.specs.ChaCha.{ChaCha}
-use Rattle.heco_draw.proofs.Drawn.{length-listed}
-use Rattle.heco_draw.specs.Words.{start, word, listed, values}
+use Rattle.heco_nums.proofs.ListedLaws.{length-listed}
+use Rattle.heco_draw.specs.Words.{start, word, values}
+use Rattle.heco_nums.specs.Listed.{listed}
 use Rattle.heco_sample.specs.Drawn.{drawn_values}
-use Rattle.heco_sample_source.specs.Laws.{IsRow}
+use Rattle.heco_sample_source.specs.Laws.{IsSampleRow}
 
 -- ---- what holds of all holds of the front and of the back
 
@@ -38,8 +39,8 @@ pub length-values : (g : ChaCha) (t count : ℕ) → length (values g t count) �
 unfolding values
 length-values g t count = length-listed (λ i. word g i % t) count
 
-pub first_row : (seed : ℕ) → IsRow (take 512 (drawn_values seed))
+pub first_row : (seed : ℕ) → IsSampleRow (take 512 (drawn_values seed))
 first_row seed = record { long = length-take-le 512 (drawn_values seed) (let n = length-values (start seed 3) 65537 1024 in omega arith); below = all_front is_below 512 (drawn_values seed) (below seed) }
 
-pub second_row : (seed : ℕ) → IsRow (drop 512 (drawn_values seed))
+pub second_row : (seed : ℕ) → IsSampleRow (drop 512 (drawn_values seed))
 second_row seed = record { long = omega (arith, length-drop 512 (drawn_values seed), length-values (start seed 3) 65537 1024); below = all_back is_below 512 (drawn_values seed) (below seed) }

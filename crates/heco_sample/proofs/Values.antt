@@ -15,7 +15,7 @@ use Rattle.heco_jobs.specs.Products.{Prints}
 use Rattle.heco_jobs.specs.declared.product.Product.{Product}
 use Rattle.heco_nums.specs.Presets.{modulus_of}
 use Rattle.heco_nums.specs.declared.shape.Shape.{Shape}
-use Rattle.heco_products.specs.PresetRows.{preset_of}
+use Rattle.heco_nums.specs.PresetRows.{preset_of}
 use Rattle.heco_sample_source.proofs.Sources.{only_tree, gives_one_value, two_rows_fit}
 use Rattle.heco_sample_source.proofs.Tree.{tree}
 use Rattle.heco_sample_source.specs.SampleText.{sample_text}

@@ -5,7 +5,7 @@ use Rattle.heco_draw.specs.Words.{start, values}
 use Rattle.heco_headline.specs.Exec.{text_of}
 use Rattle.heco_material.specs.Drawn.{drawn_encryptions}
 use Rattle.heco_material.specs.declared.words.EncRow.{EncRow}
-use Rattle.heco_nums.specs.Presets.{degree_of, weight_of, error_of}
+use Rattle.heco_nums.specs.Presets.{degree_of, hamming_weight_of, error_of}
 use Rattle.heco_tasks.specs.DrawnFiles.{drawn_material}
 
 -- 1,024 words of stream 3, each modulo t: the 512 values of the first input, and then those of the second
@@ -17,7 +17,7 @@ drawn_rows seed = take 512 (drawn_values seed) ∷ drop 512 (drawn_values seed) 
 
 -- for each input of the circuit in order
 abbrev pub drawn_words : Circuit → ℕ → List EncRow
-drawn_words c seed = drawn_encryptions (start seed 2) (degree_of c.preset) (weight_of c.preset) (error_of c.preset) (length c.inputs)
+drawn_words c seed = drawn_encryptions (start seed 2) (degree_of c.preset) (hamming_weight_of c.preset) (error_of c.preset) (length c.inputs)
 
 -- the keys are made and the inputs encrypted of the drawn material, the circuit is run, and its result is decrypted: the text of the outputs
 abbrev pub decrypted_text : Circuit → ℕ → List ℕ

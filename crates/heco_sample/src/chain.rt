@@ -4,7 +4,7 @@ ghost use Rattle.heco_exec.specs.Chain.{AreKeysFor};
 ghost use Rattle.heco_headline.specs.Exec.{text_of};
 ghost use Rattle.heco_jobs.specs.Agents.{picking};
 ghost use Rattle.heco_material.specs.KeyLists.{lists_of};
-ghost use Rattle.heco_products.specs.PresetRows.{preset_of};
+ghost use Rattle.heco_nums.specs.PresetRows.{preset_of};
 ghost use Rattle.heco_sample.specs.Drawn.{drawn_rows, drawn_words, decrypted_text};
 ghost use Rattle.heco_tasks.specs.DrawnFiles.{drawn_material};
 ghost use Rattle.heco_tasks.specs.Running.{Leads};
@@ -59,7 +59,7 @@ pub fn drawn_text(
     ensures leads { OnOk result (Leads circuit.now (picking (rule picker.old) (state picker.old)) (picking (rule picker.new) (state picker.new))) }
     ensures rule { rule picker.new ≡ rule picker.old }
 {
-    let _ = circuit.preset();
+    let _valid = circuit.preset();
     let k = keys(alloc, circuit, seed)?;
     let material = words(alloc, circuit, seed)?;
     let text = chain_text(alloc, circuit, &k, &material, values, picker)?;

@@ -1,7 +1,7 @@
 ghost use Rattle.std.specs.Prelude.{◌≡◌, ◌∷◌, [], IfOk, length, take, drop};
 ghost use Rattle.heco_exec.specs.Chain.{AreKeysFor};
 ghost use Rattle.heco_material.specs.KeyLists.{IsEncMaterial, lists_of};
-ghost use Rattle.heco_products.specs.PresetRows.{preset_of};
+ghost use Rattle.heco_nums.specs.PresetRows.{preset_of};
 ghost use Rattle.heco_sample.specs.Drawn.{drawn_rows, drawn_words};
 ghost use Rattle.heco_tasks.specs.DrawnFiles.{drawn_material};
 
@@ -9,7 +9,7 @@ use heco_circuit::{Circuit, needs};
 use heco_draw::draw_values;
 use heco_material::{EncWords, KeyWords, draw_enc, draw_keys};
 use heco_nums::{Inputs, List, Memory, Preset};
-use heco_tasks::{input_count, preset_of};
+use heco_tasks::input_count;
 use std::alloc::Global;
 
 fn rows(alloc: Global, values: &[u32]) -> Result<List<List<u32>>, Memory>
@@ -39,7 +39,7 @@ pub fn keys(alloc: Global, circuit: &Circuit, seed: u64) -> Result<KeyWords, Mem
     ensures words { IfOk result (λ k. lists_of k ≡ drawn_material circuit.now seed) }
 {
     let needs = needs(alloc, circuit)?;
-    let k = draw_keys(alloc, preset_of(circuit), &needs, seed)?;
+    let k = draw_keys(alloc, circuit.preset(), &needs, seed)?;
     Ok(k)
 }
 
@@ -49,6 +49,6 @@ pub fn words(alloc: Global, circuit: &Circuit, seed: u64) -> Result<EncWords, Me
     ensures words { IfOk result (λ w. w.rows ≡ drawn_words circuit.now seed) }
     ensures within { IfOk result (λ w. let p = preset_of circuit.now.preset in IsEncMaterial p.n p.h p.b (length circuit.now.inputs) w.rows) }
 {
-    let words = draw_enc(alloc, preset_of(circuit), input_count(circuit), seed)?;
+    let words = draw_enc(alloc, circuit.preset(), input_count(circuit), seed)?;
     Ok(words)
 }

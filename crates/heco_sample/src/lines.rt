@@ -1,18 +1,10 @@
-ghost use Rattle.std.specs.Prelude.{◌≡◌, ◌++◌, IfOk, OnOk, decimal, length};
+ghost use Rattle.std.specs.Prelude.{◌≡◌, ◌++◌, IfOk, length};
 ghost use Rattle.heco_sample.specs.Summary.{greatest_bound, summary};
 ghost use Rattle.heco_written.specs.Bound.{greatest_of};
 
 use heco_circuit::{Circuit, bounds};
-use heco_nums::{Bytes, Memory};
-use itoa::Buffer;
+use heco_nums::{Bytes, Memory, put_number};
 use std::alloc::Global;
-
-fn put_number(out: &mut Bytes, n: u128) -> Result<(), Memory>
-    ensures { OnOk result (out.new ≡ out.old ++ decimal n) }
-{
-    let mut buffer = Buffer::new();
-    out.extend_from_slice(buffer.format(n).as_bytes())
-}
 
 fn greatest_of(bounds: &[u128]) -> u128
     ensures { result ≡ greatest_of bounds.now }

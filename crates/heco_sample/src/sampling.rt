@@ -8,7 +8,7 @@ ghost use Rattle.heco_good.specs.Good.{Good};
 ghost use Rattle.heco_jobs.specs.Agents.{agents, picking};
 ghost use Rattle.heco_jobs.specs.Products.{Prints};
 ghost use Rattle.heco_peep.specs.Rules.{Handed};
-ghost use Rattle.heco_products.specs.PresetRows.{preset_of};
+ghost use Rattle.heco_nums.specs.PresetRows.{preset_of};
 ghost use Rattle.heco_sample.specs.Drawn.{drawn_rows, drawn_words, decrypted_text};
 ghost use Rattle.heco_sample.specs.SampleTask.{Samples};
 ghost use Rattle.heco_sample.specs.Summary.{greatest_bound, summary};
@@ -27,7 +27,6 @@ use heco_jobs::{Product, printing};
 use heco_nums::{Inputs, Memory};
 use heco_peep::Pass;
 use heco_sched::Picker;
-use heco_tasks::preset_of;
 use heco_types::Typed;
 use std::alloc::Global;
 
@@ -88,7 +87,7 @@ fn of_circuit(
         Samples (agents (picking (rule picker.old) (state picker.old)) handed) seed p (agents (picking (rule picker.new) (state picker.new)) left)) }
     ensures rule { rule picker.new ≡ rule picker.old }
 {
-    let values = values(alloc, preset_of(circuit), seed)?;
+    let values = values(alloc, circuit.preset(), seed)?;
     of_values(alloc, seed, typed, circuit, &values, picker)
 }
 

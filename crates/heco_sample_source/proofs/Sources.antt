@@ -21,7 +21,7 @@ use Rattle.heco_sample_source.proofs.Reading.{spelled}
 use Rattle.heco_sample_source.proofs.Tree.{tree}
 use Rattle.heco_sample_source.proofs.Typing.{none_broken}
 use Rattle.heco_sample_source.proofs.Written.{dot_product}
-use Rattle.heco_sample_source.specs.Laws.{IsAcceptedText, IsRow, TwoRowsFit, GivesOneValue}
+use Rattle.heco_sample_source.specs.Laws.{IsAcceptedText, IsSampleRow, TwoRowsFit, GivesOneValue}
 use Rattle.heco_sample_source.specs.SampleText.{sample_text}
 
 short : length sample_text ≤ source_limit
@@ -37,7 +37,7 @@ only_tree s is = one_source sample_text tree s is_tree is
 pub text_accepted : IsAcceptedText sample_text
 text_accepted = record { source = tree; is = is_tree; accepted = λ s is. subst IsAccepted (only_tree s is) accepted }
 
-tree_fits : (a b : List ℕ) → IsRow a → IsRow b → HaveFit (modulus tree) (input_shapes tree) (a ∷ b ∷ [])
+tree_fits : (a b : List ℕ) → IsSampleRow a → IsSampleRow b → HaveFit (modulus tree) (input_shapes tree) (a ∷ b ∷ [])
 tree_fits a b in_a in_b = (in_a.long, in_a.below, (in_b.long, in_b.below, tt))
 
 pub two_rows_fit : TwoRowsFit

@@ -6,7 +6,7 @@ use Rattle.heco_written.specs.Bound.{scheme_of, first_deep}
 use Rattle.heco_written.specs.Fold.{power, fold_within, fold}
 use Rattle.heco_written.specs.ScalarTerm.{ScalarTerm, Number, Element, Product, sum_of}
 use Rattle.heco_written.specs.VectorTerm.{VectorTerm, Input, Multiplied}
-use Rattle.heco_written.specs.WrittenForm.{Home, At, written}
+use Rattle.heco_written.specs.WrittenForm.{WrittenHome, At, written}
 
 -- a[k]*b[k]
 abbrev pub term : ℕ → ScalarTerm
@@ -23,7 +23,7 @@ dot_product = added_up (Number 0) 0 512
 abbrev pub products : VectorTerm
 products = Multiplied (Input 0) (Input 1)
 
-abbrev home_of : VectorTerm → Home
+abbrev home_of : VectorTerm → WrittenHome
 home_of v = At (record { vector = v; slot = 0 })
 
 pub home_is : (written 65537 512 dot_product).home ≡ home_of (power products 9)

@@ -17,13 +17,13 @@ pub record IsAcceptedText (text : List ℕ) : Type 0 where
   pub accepted : (s : Source) → IsSource text s → IsAccepted s
 
 -- 512 numbers modulo 65537
-pub record IsRow (row : List ℕ) : Type 0 where
+pub record IsSampleRow (row : List ℕ) : Type 0 where
   pub long : length row ≡ 512
   pub below : list_all (λ v. nat_lt v 65537) row ≡ true
 
 -- two such rows fit its inputs
 abbrev pub TwoRowsFit : Type 0
-TwoRowsFit = (s : Source) (a b : List ℕ) → IsSource sample_text s → IsRow a → IsRow b → HaveFit (modulus s) (input_shapes s) (a ∷ b ∷ [])
+TwoRowsFit = (s : Source) (a b : List ℕ) → IsSource sample_text s → IsSampleRow a → IsSampleRow b → HaveFit (modulus s) (input_shapes s) (a ∷ b ∷ [])
 
 -- and on rows that fit it gives one number
 abbrev pub GivesOneValue : Type 0

@@ -1,12 +1,11 @@
 -- The wires of outputs, told by any test for a slot of a wire.
-use Rattle.std.proofs.Common.{◌≡◌, ℕ, zero, suc, ◌+◌, List, [], ◌∷◌, ◌++◌, refl, ◌∙◌, ap, Bool, true, false, ◌||◌, eqb, inl, inr}
+use Rattle.std.proofs.Common.{◌≡◌, ℕ, zero, suc, ◌+◌, List, [], ◌∷◌, refl, ◌∙◌, ap, Bool, false, ◌||◌, eqb}
 use Rattle.std.specs.List.{flat_map, list_any, range_with_len}
-use Rattle.std.proofs.lemmas.Bool.{cases_Bool}
 use Rattle.heco_circuit.specs.declared.gate.Cell.{Cell}
 use Rattle.heco_circuit.specs.declared.gate.Cell.TheVariants.{Number, Slot}
 use Rattle.heco_circuit.specs.declared.gate.Output.{Output}
 use Rattle.heco_schedules.specs.Rising.{names}
-use Rattle.heco_schedules.specs.Tables.{numbers, below}
+use Rattle.heco_schedules.specs.Tables.{numbers}
 use Rattle.heco_schedules.proofs.Rising.{names-append}
 use Rattle.heco_sched.specs.Wirings.{cell_wires, output_wires}
 

@@ -91,7 +91,7 @@ impl Board {
         ensures consistent { IsConsistent self.now.circuit self.now.standing }
         ensures count { result ≡ length (legal_events self.now.circuit self.now.standing) }
     {
-        let _ = &self.inputs;
+        let _valid = &self.inputs;
         let (idle, ready, busy) = self.counts();
         idle * ready + busy
     }

@@ -1,5 +1,5 @@
 -- A gate that is done stays done, and a claimed gate has one worker.
-use Rattle.std.proofs.Common.{◌≡◌, ◌≢◌, ℕ, ◌<◌, List, [], ◌∷◌, inl, inr, true, Some}
+use Rattle.std.proofs.Common.{◌≡◌, ◌≢◌, ℕ, List, [], ◌∷◌, inl, inr, true, Some}
 use Rattle.std.specs.List.{slice_get, list_all}
 use Rattle.std.specs.Prelude.{◌↔◌}
 use Rattle.std.proofs.lemmas.Bool.{cases_eq}
@@ -8,8 +8,8 @@ use Rattle.heco_schedules.specs.declared.event.Event.{Event}
 use Rattle.heco_schedules.specs.declared.event.Event.TheVariants.{Claim, Finish}
 use Rattle.heco_schedules.specs.Standings.{Wiring, Standing, is_done, operands}
 use Rattle.heco_schedules.specs.Events.{Legal, after}
-use Rattle.heco_schedules.specs.Runs.{AllLegal, after_all, fresh, IsConsistent}
-use Rattle.heco_schedules.proofs.Consistent.{consistent_next, ready_open}
+use Rattle.heco_schedules.specs.Runs.{AllLegal, after_all, fresh}
+use Rattle.heco_schedules.proofs.Consistent.{ready_open}
 use Rattle.heco_schedules.proofs.Lists.{get-set_same, get-set_other, within}
 use Rattle.heco_schedules.proofs.Sound.{fresh_consistent}
 use Rattle.heco_schedules.proofs.Whole.{consistent_all}

@@ -1,18 +1,18 @@
 -- A part that is missing counts as 0.
-use Prim.Native.Nat.{ℕ, zero, suc, ◌+◌, ◌<◌, ◌≤◌}
+use Prim.Native.Nat.{ℕ, ◌+◌, ◌<◌}
 use native.Mathlib.Omega.{arith}
-use mathlib.Core.Path.{◌≡◌, refl, sym, ap, ◌∙◌}
+use mathlib.Core.Path.{◌≡◌, refl, ◌∙◌}
 use mathlib.Core.List.{List, []}
 use lib.IntN.{ℤ, pos, ◌+ℤ◌, ◌*ℤ◌}
 use Rattle.std.proofs.lemmas.List.{get_or_past}
 use Rattle.heco_noise_laws.specs.Noise.{phase}
-use Rattle.heco_ring.proofs.Congruence.{same_refl, same_sym, same_trans, same_plus, same_times}
+use Rattle.heco_ring.proofs.Congruence.{same_trans}
 use Rattle.heco_ring.proofs.Integers.{lines, z_zero_mul, z_mul_zero}
 use Rattle.heco_ring.proofs.Linear.{at-plus, at-times, at-negate, at-scale}
 use Rattle.heco_ring.proofs.Remainders.{cong_refl}
 use Rattle.heco_ring.proofs.Sums.{sum_ext, sum_zero}
 use Rattle.heco_ring.specs.Remainders.{Same}
-use Rattle.heco_ring.specs.Ring.{at, wholes, plus, times, times_at, negate, scale, sum_z, sign}
+use Rattle.heco_ring.specs.Ring.{at, plus, times, times_at, negate, scale, sum_z, sign}
 
 pub at-empty : (k : ℕ) → at [] k ≡ pos 0
 unfolding at

@@ -1,31 +1,29 @@
 -- The noise of a fresh encryption, and what decryption gives.
-use Prim.Native.Nat.{ℕ, zero, suc, ◌+◌, ◌-◌, ◌*◌, ◌/◌, ◌%◌, ◌<◌, ◌≤◌, ◌^◌}
+use Prim.Native.Nat.{ℕ, zero, suc, ◌+◌, ◌-◌, ◌*◌, ◌/◌, ◌<◌, ◌≤◌}
 use native.Mathlib.Omega.{arith}
-use native.Mathlib.Nat.{mod-lt}
-use mathlib.Core.Path.{◌≡◌, refl, sym, ap, ◌∙◌}
+use mathlib.Core.Path.{◌≡◌, ap, ◌∙◌}
 use mathlib.Core.Logic.{inl, inr}
-use mathlib.Core.Bool.{cond, true, false}
-use mathlib.Core.List.{List, [], ◌∷◌}
+use mathlib.Core.Bool.{true, false}
+use mathlib.Core.List.{List, []}
 use lib.Dec.{eqb}
-use lib.IntN.{ℤ, pos, ◌+ℤ◌, ◌-ℤ◌, ◌*ℤ◌, nat_abs}
+use lib.IntN.{ℤ, pos, ◌-ℤ◌, ◌*ℤ◌, nat_abs}
 use lib.ListN.{length, get_or}
-use Rattle.std.proofs.lemmas.Bool.{cases_Bool, eqb-true, eqb-false}
+use Rattle.std.proofs.lemmas.Bool.{cases_Bool, eqb-true}
 use Rattle.heco_nums.specs.declared.preset.Preset.{Preset}
 use Rattle.heco_nums.proofs.PresetFacts.{facts}
 use Rattle.heco_noise_laws.proofs.Decryption.{decrypt_is}
 use Rattle.heco_noise_laws.proofs.Gates.{noise_fresh, noise_same, scaled_near}
-use Rattle.heco_noise_laws.specs.Noise.{size, phase, NoiseAtMost, rounded}
+use Rattle.heco_noise_laws.specs.Noise.{phase, NoiseAtMost, rounded}
 use Rattle.heco_nums.specs.Arithmetic.{scaled}
-use Rattle.heco_ring.proofs.Congruence.{same_refl, same_sym, same_trans, same_plus, same_times}
+use Rattle.heco_ring.proofs.Congruence.{same_refl, same_trans, same_plus, same_times}
 use Rattle.heco_ring.proofs.Pairing.{at-table}
-use Rattle.heco_ring.proofs.Reduced.{same_wholes, reduced_same, length-reduced, at-reduced, filled}
-use Rattle.heco_ring.proofs.Remainders.{cong_self}
+use Rattle.heco_ring.proofs.Reduced.{same_wholes, length-reduced, at-reduced, filled}
 use Rattle.heco_ring.proofs.Wrapping.{at-wholes}
-use Rattle.heco_ring.specs.Remainders.{rem, reduced, Same}
+use Rattle.heco_ring.specs.Remainders.{reduced, Same}
 use Rattle.heco_ring.specs.Ring.{at, table, wholes, plus, times, negate}
 use Rattle.heco_ring.specs.Sizes.{sum_n, weight}
 use Rattle.heco_noise.specs.Rows.{fresh}
-use Rattle.heco_scheme.specs.Bounds.{IsSparse, AreErrors, is_used}
+use Rattle.heco_nums.specs.MaterialBounds.{IsSparse, AreErrors, is_used}
 use Rattle.std.specs.Prelude.{count_by, not, take}
 use Rattle.std.proofs.lemmas.List.{take_all}
 use Rattle.std.proofs.lemmas.List.Elements.{All-get_or}

@@ -1,28 +1,28 @@
 -- The noise of the gates that act on each part.
-use Prim.Native.Nat.{ℕ, zero, suc, ◌+◌, ◌-◌, ◌*◌, ◌/◌, ◌%◌, ◌<◌, ◌≤◌, ◌^◌, max}
+use Prim.Native.Nat.{ℕ, ◌+◌, ◌-◌, ◌*◌, ◌/◌, ◌<◌, ◌≤◌, max}
 use native.Mathlib.Omega.{arith}
-use mathlib.Core.Path.{◌≡◌, refl, sym, ap, ◌∙◌}
+use mathlib.Core.Path.{◌≡◌}
 use mathlib.Core.Logic.{inl, inr}
 use mathlib.Core.Bool.{cond, false}
-use mathlib.Core.List.{List, [], ◌∷◌}
+use mathlib.Core.List.{List, []}
 use lib.Dec.{eqb, ltb}
 use lib.IntN.{ℤ, pos, ◌+ℤ◌, ◌-ℤ◌, ◌*ℤ◌, nat_abs}
-use lib.ListN.{length, get_or}
-use Rattle.std.proofs.lemmas.Bool.{cases_lt, cases_eq, cases_Bool, ne_eqb, lt-ltb, le-ltb}
+use lib.ListN.{length}
+use Rattle.std.proofs.lemmas.Bool.{cases_lt, cases_Bool, ne_eqb}
 use Rattle.heco_nums.specs.declared.preset.Preset.{Preset}
 use Rattle.heco_nums.proofs.PresetFacts.{facts}
 use Rattle.heco_noise_laws.proofs.Gates.{noise_add, noise_neg, noise_scale, scaled_near}
 use Rattle.heco_noise_laws.proofs.Near.{near_in}
-use Rattle.heco_noise_laws.specs.Noise.{size, phase, NoiseAtMost}
+use Rattle.heco_noise_laws.specs.Noise.{phase, NoiseAtMost}
 use Rattle.heco_nums.specs.Arithmetic.{centre_t, scaled}
-use Rattle.heco_ring.proofs.Congruence.{same_refl, same_sym, same_trans, same_plus, same_scale}
+use Rattle.heco_ring.proofs.Congruence.{same_refl, same_trans, same_plus}
 use Rattle.heco_ring.proofs.Integers.{lines, z_mul_one, z_mul_zero}
 use Rattle.heco_ring.proofs.Linear.{at-scale}
 use Rattle.heco_ring.proofs.Pairing.{at-table}
 use Rattle.heco_ring.proofs.Reduced.{same_wholes}
-use Rattle.heco_ring.proofs.Remainders.{cong_refl, cong_mul, cong_sym}
+use Rattle.heco_ring.proofs.Remainders.{cong_refl, cong_mul}
 use Rattle.heco_ring.specs.Remainders.{reduced, Cong, Same}
-use Rattle.heco_ring.specs.Ring.{at, table, wholes, plus, times, negate, scale, constant}
+use Rattle.heco_ring.specs.Ring.{at, wholes, plus, negate, scale, constant}
 use Rattle.heco_noise.specs.Rows as row
 use Rattle.heco_scheme.specs.Gates.{added, subtracted, negated, scaled_by, shifted}
 use Rattle.heco_scheme.specs.Noise.{q}

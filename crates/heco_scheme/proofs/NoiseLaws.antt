@@ -1,27 +1,18 @@
 -- The noise as a number, and what each gate does to it.
-use Prim.Native.Nat.{ℕ, zero, suc, ◌+◌, ◌-◌, ◌*◌, ◌/◌, ◌%◌, ◌<◌, ◌≤◌, ◌^◌, max}
+use Prim.Native.Nat.{ℕ, zero, suc, ◌-◌, ◌*◌, ◌<◌, ◌≤◌}
 use native.Mathlib.Omega.{arith}
-use mathlib.Core.Path.{◌≡◌, refl, sym, ap, ◌∙◌}
 use mathlib.Core.Logic.{inl, inr}
-use mathlib.Core.List.{List, [], ◌∷◌}
-use lib.IntN.{ℤ, pos, ◌-ℤ◌, ◌*ℤ◌, nat_abs}
-use lib.ListN.{length, get_or}
-use Rattle.std.proofs.lemmas.Bool.{cases_lt, cases_eq}
+use mathlib.Core.List.{List}
+use lib.IntN.{ℤ, pos, ◌-ℤ◌, ◌*ℤ◌}
+use Rattle.std.proofs.lemmas.Bool.{cases_eq}
 use Rattle.heco_nums.specs.declared.preset.Preset.{Preset}
-use Rattle.heco_nums.proofs.PresetFacts.{Facts, facts}
-use Rattle.heco_noise_laws.proofs.Gates.{noise_same, noise_add, noise_neg, noise_scale}
-use Rattle.heco_noise_laws.specs.Noise.{size, phase, NoiseAtMost}
-use Rattle.heco_nums.specs.Arithmetic.{centre_t}
-use Rattle.heco_ring.proofs.Congruence.{same_refl, same_sym, same_trans, same_plus, same_times, same_negate, same_scale}
-use Rattle.heco_ring.proofs.Reduced.{same_wholes}
-use Rattle.heco_ring.specs.Remainders.{reduced, Same}
-use Rattle.heco_ring.specs.Ring.{at, wholes, plus, times, negate, scale}
-use Rattle.heco_scheme.specs.Gates.{added, negated, scaled_by}
+use Rattle.heco_nums.proofs.PresetFacts.{facts}
+use Rattle.heco_noise_laws.proofs.Gates.{noise_same}
+use Rattle.heco_noise_laws.specs.Noise.{size, NoiseAtMost}
+use Rattle.heco_ring.specs.Remainders.{Same}
+use Rattle.heco_ring.specs.Ring.{at, wholes}
 use Rattle.heco_scheme.specs.Noise.{q}
-use Rattle.heco_scheme.specs.Ciphertexts.{part, parts}
-use Rattle.heco_slots.specs.Messages.{sum, opposite, multiple}
 use Rattle.heco_scheme.specs.Noise.{greatest, phase_of, noise}
-use Rattle.heco_scheme.proofs.PartLaws.{length-parts, part-parts, part_past, same_phase, phase_plus, phase_negate, phase_scale}
 
 -- ---- a greatest number is at most E exactly where each is
 pub greatest_each : (n E k : ℕ) (f : ℕ → ℕ) → greatest n f ≤ E → k < n → f k ≤ E

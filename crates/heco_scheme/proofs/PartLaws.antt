@@ -1,19 +1,18 @@
 -- The parts of a ciphertext made by parts, and phases that agree.
-use Prim.Native.Nat.{ℕ, ◌+◌, ◌<◌, ◌≤◌, ◌^◌}
+use Prim.Native.Nat.{ℕ, ◌<◌, ◌≤◌}
 use native.Mathlib.Omega.{arith}
-use mathlib.Core.Path.{◌≡◌, refl, sym, ap, ◌∙◌}
-use mathlib.Core.List.{List, [], ◌∷◌, map}
+use mathlib.Core.Path.{◌≡◌, refl, ap}
+use mathlib.Core.List.{List, [], map}
 use lib.IntN.{ℤ, pos}
-use lib.ListN.{length, get_or}
-use Rattle.std.proofs.lemmas.List.{get_or_past, ext_get_or}
+use lib.ListN.{length}
+use Rattle.std.proofs.lemmas.List.{get_or_past}
 use Rattle.std.proofs.lemmas.List.FromFn.{get_or-map-range_with_len, length-map-range_with_len}
 use Rattle.heco_noise_laws.specs.Noise.{phase}
-use Rattle.heco_ring.proofs.Congruence.{same_refl, same_sym, same_trans, same_plus, same_times}
-use Rattle.heco_ring.proofs.Linear.{products, sums, negations, plus_times, scale_times, negate_times, times_plus}
-use Rattle.heco_ring.proofs.Reduced.{same_wholes}
+use Rattle.heco_ring.proofs.Congruence.{same_refl, same_plus, same_times}
+use Rattle.heco_ring.proofs.Linear.{products, sums, negations, times_plus}
 use Rattle.heco_ring.proofs.RingLaws.{times_assoc}
-use Rattle.heco_ring.specs.Remainders.{reduced, Same}
-use Rattle.heco_ring.specs.Ring.{at, wholes, plus, times, negate, scale}
+use Rattle.heco_ring.specs.Remainders.{Same}
+use Rattle.heco_ring.specs.Ring.{wholes, plus, times, negate, scale}
 use Rattle.heco_scheme.specs.Ciphertexts.{part, parts}
 
 pub length-parts : (m : ℕ) (f : ℕ → List ℕ) → length (parts m f) ≡ m

@@ -1,31 +1,30 @@
 -- The noise of a product.
-use Prim.Native.Nat.{ℕ, zero, suc, ◌+◌, ◌-◌, ◌*◌, ◌/◌, ◌%◌, ◌<◌, ◌≤◌, ◌^◌}
+use Prim.Native.Nat.{ℕ, ◌+◌, ◌-◌, ◌*◌, ◌/◌, ◌<◌, ◌≤◌, ◌^◌}
 use native.Mathlib.Omega.{arith}
-use mathlib.Core.Path.{◌≡◌, refl, sym, ap, ◌∙◌}
+use mathlib.Core.Path.{◌≡◌, refl}
 use mathlib.Core.Logic.{inl, inr}
-use mathlib.Core.Bool.{cond, true, false}
 use mathlib.Core.List.{List, [], ◌∷◌}
 use lib.Dec.{ltb}
 use lib.IntN.{ℤ, pos, negsuc, ◌+ℤ◌, ◌-ℤ◌, ◌*ℤ◌, nat_abs}
-use lib.ListN.{length, get_or}
+use lib.ListN.{get_or}
 use borrow.Author.Differences.{abs_is}
 use Rattle.std.proofs.lemmas.Bool.{cases_Bool, ltb-true, ltb-false}
 use Rattle.heco_nums.specs.declared.preset.Preset.{Preset}
 use Rattle.heco_nums.proofs.PresetFacts.{facts}
 use Rattle.heco_noise_laws.proofs.Gates.{noise_same}
 use Rattle.heco_noise_laws.proofs.Product.{mul_noise}
-use Rattle.heco_noise_laws.specs.Noise.{size, phase, NoiseAtMost, rounded, round_part}
+use Rattle.heco_noise_laws.specs.Noise.{phase, NoiseAtMost, round_part}
 use Rattle.heco_nums.specs.Arithmetic.{centre_q}
 use Rattle.heco_ring.proofs.Congruence.{same_refl, same_sym, same_trans, same_plus, same_times}
-use Rattle.heco_ring.proofs.Integers.{lines, z_mul_one, z_mul_minus}
+use Rattle.heco_ring.proofs.Integers.{lines, z_mul_minus}
 use Rattle.heco_ring.proofs.Pairing.{at-table}
 use Rattle.heco_ring.proofs.Reduced.{same_wholes}
 use Rattle.heco_ring.proofs.Remainders.{cong_refl}
 use Rattle.heco_ring.proofs.Wrapping.{at-wholes}
 use Rattle.heco_ring.specs.Remainders.{reduced, Cong, Same}
-use Rattle.heco_ring.specs.Ring.{at, table, wholes, plus, times}
+use Rattle.heco_ring.specs.Ring.{at, wholes, plus, times}
 use Rattle.heco_noise.specs.Rows as row
-use Rattle.heco_scheme.specs.Bounds.{IsSparse}
+use Rattle.heco_nums.specs.MaterialBounds.{IsSparse}
 use Rattle.heco_scheme.specs.Gates.{multiplied}
 use Rattle.heco_scheme.specs.Noise.{q}
 use Rattle.heco_scheme.specs.Rounding.{centred, rounded_all}

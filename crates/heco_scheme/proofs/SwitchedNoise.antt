@@ -1,11 +1,11 @@
 -- The noise after a switch of keys: of relinearisation and of turns.
 use Prim.Native.Nat.{ℕ, zero, suc, ◌+◌, ◌-◌, ◌*◌, ◌/◌, ◌%◌, ◌<◌, ◌≤◌, ◌^◌}
 use native.Mathlib.Omega.{arith}
-use native.Mathlib.Nat.{mod-lt, mul-add-mod_self_left, mod-eq_of_lt}
+use native.Mathlib.Nat.{mul-add-mod_self_left, mod-eq_of_lt}
 use Rattle.std.proofs.lemmas.Nat.{mul-mod, pow-add}
 use mathlib.Core.Path.{◌≡◌, refl, sym, ap, ◌∙◌}
-use mathlib.Core.List.{List, [], ◌∷◌}
-use lib.IntN.{ℤ, pos, ◌+ℤ◌, ◌-ℤ◌, ◌*ℤ◌, nat_abs}
+use mathlib.Core.List.{List, []}
+use lib.IntN.{ℤ, pos, ◌+ℤ◌, ◌*ℤ◌, nat_abs}
 use lib.ListN.{length, get_or}
 use Rattle.heco_nums.specs.declared.preset.Preset.{Preset}
 use Rattle.heco_nums.proofs.PresetFacts.{facts}
@@ -14,15 +14,15 @@ use Rattle.heco_noise_laws.proofs.Switch.{digits_sum}
 use Rattle.heco_noise_laws.proofs.SwitchNoise.{SwitchKey, gain, switch_noise}
 use Rattle.heco_noise_laws.specs.Noise.{phase, NoiseAtMost}
 use Rattle.heco_ring.proofs.Congruence.{same_refl, same_sym, same_trans, same_plus, same_times}
-use Rattle.heco_ring.proofs.Integers.{lines, z_mul_comm}
+use Rattle.heco_ring.proofs.Integers.{z_mul_comm}
 use Rattle.heco_ring.proofs.Linear.{at-plus, at-scale}
 use Rattle.heco_ring.proofs.Pairing.{at-table}
 use Rattle.heco_ring.proofs.Reduced.{same_wholes}
-use Rattle.heco_ring.proofs.Remainders.{cong_self, cong_refl, rem_nat}
+use Rattle.heco_ring.proofs.Remainders.{cong_self, rem_nat}
 use Rattle.heco_ring.proofs.SlotLaws.{three_odd}
 use Rattle.heco_ring.proofs.Wrapping.{at-wholes}
-use Rattle.heco_ring.specs.Remainders.{rem, reduced, Cong, Same}
-use Rattle.heco_ring.specs.Ring.{at, table, wholes, plus, times, negate, scale, turn, sum_lists}
+use Rattle.heco_ring.specs.Remainders.{reduced, Same}
+use Rattle.heco_ring.specs.Ring.{at, wholes, plus, times, negate, scale, turn, sum_lists}
 use Rattle.heco_ring.specs.Sizes.{sum_n}
 use Rattle.heco_scheme.specs.Gates.{digits, switched, relinearised, turned}
 use Rattle.heco_noise.specs.Rows as row

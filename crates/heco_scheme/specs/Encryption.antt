@@ -1,6 +1,6 @@
 -- Encryption and decryption. After Fan and Vercauteren, ePrint 2012/144, section 3. They multiply the message by
 -- floor(q/t); to round q m / t to the nearest whole number is our own.
-use Rattle.std.specs.Prelude.{ℕ, ◌^◌, List, [], ◌∷◌}
+use Rattle.std.specs.Prelude.{ℕ, List, [], ◌∷◌}
 use lib.IntN.{ℤ, pos}
 use lib.ListN.{get_or}
 use Rattle.heco_nums.specs.Arithmetic.{scaled}

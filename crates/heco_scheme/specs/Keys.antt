@@ -1,10 +1,10 @@
 -- Keys as formulas. After Fan and Vercauteren, ePrint 2012/144, sections 3 and 4; the form of the switch keys, with
 -- 29 digits in base 4, is our own.
-use Rattle.std.specs.Prelude.{◌≡◌, ℕ, ◌*◌, ◌%◌, ◌^◌, ◌<◌, List, [], ◌∷◌, length, ℤ, pos}
+use Rattle.std.specs.Prelude.{◌≡◌, ℕ, ◌*◌, ◌%◌, ◌^◌, ◌<◌, List, [], length, ℤ, pos}
 use lib.ListN.{get_or}
 use Rattle.heco_ring.specs.Ring.{wholes, plus, negate, scale, times, turn}
 use Rattle.heco_ring.specs.Remainders.{reduced}
-use Rattle.heco_scheme.specs.Bounds.{AreErrors}
+use Rattle.heco_nums.specs.MaterialBounds.{AreErrors}
 
 -- -(a s + e): the first part of the public key to the secret s, from its second part a and the error e
 unfoldable pub key_part : ℕ → List ℤ → List ℕ → List ℤ → List ℕ
@@ -19,8 +19,8 @@ unfoldable pub square : ℕ → List ℤ → List ℤ
 square n s = times n s s
 
 -- what a turn by r slots switches from
-unfoldable pub turned : ℕ → List ℤ → ℕ → List ℤ
-turned n s r = turn n s (3 ^ r % (2 * n))
+unfoldable pub turned_secret : ℕ → List ℤ → ℕ → List ℤ
+turned_secret n s r = turn n s (3 ^ r % (2 * n))
 
 -- the public key of the secret s, with some error
 pub record IsPublicKey (n b : ℕ) (s : List ℤ) (p0 p1 : List ℕ) : Type 0 where

@@ -1,4 +1,3 @@
-pub mod Bounds
 pub mod Ciphertexts
 pub mod Encryption
 pub mod Gates

@@ -6,11 +6,11 @@ ghost use Rattle.heco_ring.specs.Ring.{wholes};
 ghost use Rattle.heco_noise.specs.Rows as row;
 ghost use Rattle.heco_slots.specs.Messages as message;
 ghost use Rattle.heco_slots.specs.Weighing.{vector_weight};
-ghost use Rattle.heco_scheme.specs.Bounds.{AreErrors, IsSparse};
+ghost use Rattle.heco_nums.specs.MaterialBounds.{AreErrors, IsSparse};
 ghost use Rattle.heco_scheme.specs.Ciphertexts.{AreTwoParts};
 ghost use Rattle.heco_scheme.specs.Encryption.{decrypted, encrypted};
 ghost use Rattle.heco_scheme.specs.Gates.{added, multiplied, negated, relinearised, scaled_by, shifted, subtracted, times_each, turned, weighed, weigher_words};
-ghost use Rattle.heco_scheme.specs.Keys.{IsPublicKey, IsSwitchKey, square, turned as turned_secret};
+ghost use Rattle.heco_scheme.specs.Keys.{IsPublicKey, IsSwitchKey, square, turned_secret};
 ghost use Rattle.heco_scheme.specs.Noise.{noise};
 
 /// Encryption with words within bounds, under a public key of s with an error within bounds.

@@ -21,6 +21,6 @@ pub fn read_values(alloc: Global, t: &Typed, text: &[u8]) -> Result<Inputs, Inpu
     ensures refuses { (err : Refusal) → err ≢ e.Memory → IsInputRefusal t.now text.now err → Gives result (Err err) }
 {
     // A typed source has at most 256 inputs, whose names differ.
-    let _ = t.source();
+    let _valid = t.source();
     read_inputs(alloc, t.preset(), t.inputs(), text)
 }

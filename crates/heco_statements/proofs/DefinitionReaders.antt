@@ -1,17 +1,16 @@
 -- Definitions.
-use Rattle.std.proofs.Common.{◌≡◌, ◌∙◌, sym, ap, subst, refl, ℕ, suc, List, [], ◌∷◌, ◌++◌, true, false, Some, None, append-nil, ◌⊎◌}
+use Rattle.std.proofs.Common.{◌≡◌, ◌∙◌, ap, ℕ, suc, List, [], ◌∷◌, ◌++◌, true, false, None, ◌⊎◌}
 use Rattle.heco_lex.specs.declared.place.Place.{Place}
 use Rattle.heco_lex.specs.declared.token.TokenKind.TheVariants as k
 use Rattle.heco_syntax.specs.Parts.{place_of, ident_of, comma, comma_by, def_sign, def_sign_by}
-use Rattle.heco_syntax.specs.Productions.{Spells, IsOne, IsKnown, IsNothing, Then, Many}
+use Rattle.heco_syntax.specs.Productions.{Spells, IsOne, IsNothing, Then, Many}
 use Rattle.heco_syntax.specs.Sources as g
 use Rattle.heco_syntax.specs.declared.lexeme.Lexeme.{Lexeme}
-use Rattle.heco_syntax.specs.declared.tree.Def.{Def}
 use Rattle.heco_syntax.specs.declared.tree.Ident.{Ident}
-use Rattle.heco_expressions.specs.Reading.{is_at, same_kind, signed, behind}
+use Rattle.heco_expressions.specs.Reading.{is_at, signed, behind}
 use Rattle.heco_expressions.proofs.Verdicts.{kinds_same}
 use Rattle.heco_statements.specs.Reading as read
-use Rattle.heco_statements.proofs.Readers.{Four, four_of, same_four, Reader, Any, then_reader, then_any, one_reader, done_reader, either_reader, one_starts, then_starts}
+use Rattle.heco_statements.proofs.Readers.{four_of, same_four, Reader, Any, then_reader, then_any, one_reader, done_reader, either_reader, one_starts, then_starts}
 use Rattle.heco_statements.proofs.Series.{adds_reader}
 use Rattle.heco_statements.proofs.StatementReaders.{narrow, same_reader, listed, unlisted, alone, unalone, value_reader}
 

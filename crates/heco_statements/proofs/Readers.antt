@@ -1,7 +1,6 @@
 -- Readers with all that is known of them, and how one behind another is known.
 use Rattle.std.proofs.Common.{◌≡◌, ◌∙◌, sym, ap, subst, refl, ℕ, suc, ◌≤◌, List, [], ◌∷◌, ◌++◌, Bool, true, false, Some, None, Option, append_assoc, arith, ◌⊎◌, inl, inr, length}
 use Rattle.std.specs.Prelude.{if◌then◌else◌}
-use Rattle.heco_lex.specs.declared.place.Place.{Place}
 use Rattle.heco_lex.specs.declared.token.TokenKind.{TokenKind}
 use Rattle.heco_lex.specs.declared.token.TokenKind.TheVariants as k
 use Rattle.heco_syntax.specs.Grammar.{IsSum}
@@ -9,7 +8,7 @@ use Rattle.heco_syntax.specs.Limits.{Begins}
 use Rattle.heco_syntax.specs.Productions.{Spells, IsOne, IsKnown, IsNothing, Then}
 use Rattle.heco_syntax.specs.declared.lexeme.Lexeme.{Lexeme}
 use Rattle.heco_syntax.specs.declared.tree.Expr.{Expr}
-use Rattle.heco_expressions.specs.Reading.{Outcome, Parser, found, syntax, nested, and_then, take_one, is_at, same_kind, signed, behind, pick, picked}
+use Rattle.heco_expressions.specs.Reading.{Outcome, Parser, found, syntax, nested, and_then, take_one, is_at, same_kind, pick, picked}
 use Rattle.heco_expressions.specs.Reading as read
 use Rattle.heco_expressions.proofs.Verdicts.{plain, kinds_same}
 use Rattle.heco_expressions.proofs.Verdicts as expressions

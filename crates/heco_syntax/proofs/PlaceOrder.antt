@@ -1,5 +1,5 @@
 -- Places are in order.
-use Rattle.std.proofs.Common.{◌≡◌, ◌∙◌, ◌⊎◌, inl, inr, ◌<◌, arith}
+use Rattle.std.proofs.Common.{◌∙◌, inl, inr, arith}
 use Rattle.heco_lex.specs.declared.place.Place.{Place}
 use Rattle.heco_syntax.specs.Kept.{Before}
 

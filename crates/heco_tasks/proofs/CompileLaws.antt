@@ -1,5 +1,5 @@
 -- A source that is not compiled is not accepted.
-use Rattle.std.proofs.Common.{◌≡◌, ◌≢◌, Err}
+use Rattle.std.proofs.Common.{Err}
 use Rattle.heco_compile.proofs.Refused.{refused_not_accepted}
 use Rattle.heco_compile.specs.Compiling.{IsRefused}
 use Rattle.heco_compile.specs.declared.error.CompileErr.{CompileErr}

@@ -1,5 +1,5 @@
 -- What a refused execution says.
-use Rattle.std.proofs.Common.{◌≡◌, ℕ, List, Result, Ok, Err}
+use Rattle.std.proofs.Common.{ℕ, List, Err}
 use Rattle.heco_eval.specs.Typed.{outputs_of}
 use Rattle.heco_execution.specs.Outcomes.{Refuses}
 use Rattle.heco_execution.specs.declared.error.EvalErr.{EvalErr}

@@ -1,16 +1,16 @@
 -- Of the job of each command: it reads the words of its plan in order and gives what is planned; each file can be read as one thing alone; and it writes into file words.
-use Rattle.std.proofs.Common.{◌≡◌, ◌<◌, ◌∙◌, ℕ, List, Ok, refl, sym, ap, arith, length}
+use Rattle.std.proofs.Common.{◌≡◌, ◌∙◌, ℕ, List, Ok, refl, sym, ap, length}
 use Rattle.heco_ciphertext_files.specs.declared.kind.FileKind.TheVariants.{Cts, Res}
 use Rattle.heco_circuit.specs.Needs.{needed_keys}
 use Rattle.heco_nums.specs.declared.shape.Shape.{Shape}
 use Rattle.heco_nums.specs.declared.shape.Values.{Values}
 use Rattle.heco_products.specs.Decrypting.{output_wire_count}
-use Rattle.heco_products.specs.PresetRows.{preset_of}
+use Rattle.heco_nums.specs.PresetRows.{preset_of}
 use Rattle.heco_sources.proofs.SourceLaws.{one_source}
 use Rattle.heco_texts.specs.Answers.{IsRead}
 use Rattle.heco_jobs.specs.Agents.{Agents}
 use Rattle.heco_jobs.proofs.DoneLaws.{Tells}
-use Rattle.heco_jobs.proofs.PlanLaws.{Plans, ArePositive, fits_print, fits_store}
+use Rattle.heco_jobs.proofs.PlanLaws.{Plans, fits_print, fits_store}
 use Rattle.heco_reads.proofs.CiphertextLaws.{ciphertexts_alone}
 use Rattle.heco_reads.proofs.CircuitLaws.{spells_once}
 use Rattle.heco_reads.proofs.KeyFileLaws.{evaluation_alone, secret_alone}

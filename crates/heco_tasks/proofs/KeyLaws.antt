@@ -1,6 +1,6 @@
 -- The keys that are made for a circuit, and how many it needs.
-use Rattle.std.proofs.Common.{◌≡◌, ◌≤◌, ◌+◌, ◌-◌, ◌*◌, ◌<◌, ◌∙◌, ℕ, Bool, true, false, List, length, sym, ap, subst, arith}
-use Rattle.std.specs.Prelude.{if◌then◌else◌, ◌==◌, map}
+use Rattle.std.proofs.Common.{◌≡◌, ◌≤◌, ◌+◌, ◌-◌, ◌∙◌, ℕ, Bool, List, length, sym, ap, subst, arith}
+use Rattle.std.specs.Prelude.{if◌then◌else◌, map}
 use Rattle.std.specs.List.{list_any}
 use Rattle.heco_circuit.specs.Needs.{needs_relin, needed_turns, needed_keys, turns_by}
 use Rattle.heco_circuit.proofs.Rising.{needed_amounts}
@@ -13,10 +13,11 @@ use Rattle.heco_scheme.specs.Keys.{key_part}
 use Rattle.heco_material.specs.KeyLists.{KeyLists, key_count, lists_of}
 use Rattle.heco_material.specs.declared.words.KeyWords.{KeyWords}
 use Rattle.heco_nums.proofs.Amounts.{passing_few}
-use Rattle.heco_nums.proofs.PresetFacts.{facts}
 use Rattle.heco_nums.specs.Presets.{slots_of}
 use Rattle.heco_nums.specs.declared.needs.KeyNeeds.{KeyNeeds}
 use Rattle.heco_nums.specs.declared.preset.Preset.{Preset}
+use Rattle.heco_nums.proofs.PresetCases.{slots_few}
+use Rattle.heco_nums.proofs.PresetFacts.{some_slots}
 use Rattle.heco_products.specs.KeyProducts.{secret_file, evaluation_file}
 use Rattle.heco_jobs.specs.Products.{Stores}
 use Rattle.heco_jobs.specs.declared.product.Product.{Product}
@@ -27,25 +28,15 @@ count_is c needs relin turns = ap (λ r. (if r then 1 else 0) + length needs.tur
 
 -- ---- how many there are
 
-slots_both : (b : Bool) (x y : ℕ) → x ≤ 512 → y ≤ 512 → (if b then x else y) ≤ 512
-slots_both true x y sx sy = sx
-slots_both false x y sx sy = sy
-
-slots_few : (id : ℕ) → slots_of id ≤ 512
-slots_few id = slots_both (id == 1) 8 _ (omega arith) (slots_both (id == 2) 32 _ (omega arith) (slots_both (id == 3) 64 _ (omega arith) (slots_both (id == 4) 32 512 (omega arith) (omega arith))))
-
 pub few_turns : (c : Circuit) → length (needed_turns c) ≤ 511
 few_turns c = omega (arith, passing_few (λ r. list_any (turns_by r) c.gates) 1 (slots_of c.preset - 1), slots_few c.preset)
 
 -- ---- the keys that are made
 
-slots_pos : (n s : ℕ) → 0 < n → n ≡ 2 * s → 0 < s
-slots_pos n s p e = omega arith
-
 -- the turns of a circuit's material are of its preset
 pub material_amounts : (c : Circuit) (p : Preset) (turns : List ℕ) → p.id ≡ c.preset → turns ≡ needed_turns c → AreAmounts p.slots turns
 material_amounts c p turns id e =
-    subst (AreAmounts p.slots) (sym e) (needed_amounts c p.slots (ap slots_of (sym id) ∙ sym p.row.3) (slots_pos p.n p.slots (facts p).n_pos (facts p).slots_half))
+    subst (AreAmounts p.slots) (sym e) (needed_amounts c p.slots (ap slots_of (sym id) ∙ sym p.row.3) (some_slots p))
 
 -- the evaluation key of these parts has these lists
 pub made_is : (k : KeyWords) (e : Eval) → e.needs.relin ≡ k.needs.relin → e.needs.turns ≡ k.needs.turns → e.p0 ≡ key_part k.preset.n k.s k.a k.e → e.p1 ≡ k.a → map (λ key. key.rows) e.switch ≡ all_rows k.preset.n k.s k.needs.relin k.needs.turns k.switch

@@ -1,6 +1,5 @@
 -- Nothing that `keys` and `encrypt` made for a circuit is refused by `run`.
-use Rattle.std.proofs.Common.{◌≡◌, ◌∙◌, ◌&&◌, ◌||◌, not, ℕ, Bool, true, false, List, [], ◌∷◌, length, map, Option, Some, None, refl, sym, ap, subst, eqb}
-use Rattle.std.specs.List.{find}
+use Rattle.std.proofs.Common.{◌≡◌, ◌∙◌, ◌&&◌, not, ℕ, Bool, true, false, List, [], ◌∷◌, length, map, Option, Some, None, refl, sym, ap, subst, eqb}
 use Rattle.std.specs.Prelude.{if◌then◌else◌}
 use Rattle.std.specs.Option.{option_map}
 use Rattle.std.proofs.lemmas.Bool.{eq-eqb, or_left, or_right}
@@ -18,14 +17,13 @@ use Rattle.heco_material.specs.declared.words.EncRow.{EncRow}
 use Rattle.heco_nums.specs.declared.preset.Preset.{Preset}
 use Rattle.heco_products.specs.Encrypting.{encrypted_inputs, inputs_file, messages_file}
 use Rattle.heco_products.specs.KeyProducts.{circuit_key, evaluation_file}
-use Rattle.heco_products.specs.PresetRows.{preset_of}
+use Rattle.heco_nums.specs.PresetRows.{preset_of}
 use Rattle.heco_run_laws.specs.Messages.{input_message}
 use Rattle.heco_schedules.specs.Rising.{names}
 use Rattle.heco_run.specs.Refusals.{missing_turn}
 use Rattle.heco_jobs.specs.Agents.{Agents}
 use Rattle.heco_jobs.specs.Laws.{IsClear, HasFiles}
 use Rattle.heco_jobs.specs.Outsides.{Files}
-use Rattle.heco_jobs.specs.Words.{name_of}
 use Rattle.heco_reads.proofs.CircuitLaws.{spells_once}
 use Rattle.heco_reads.proofs.KeyFileLaws.{evaluation_alone}
 use Rattle.heco_reads.specs.CiphertextFiles.{SpellsCiphertexts}

@@ -1,5 +1,5 @@
 -- What `measure` has printed where it is done, and that encrypted files are of the chain.
-use Rattle.std.proofs.Common.{◌≡◌, ◌∙◌, ◌++◌, ℕ, List, [], ◌∷◌, length, map, sym, ap}
+use Rattle.std.proofs.Common.{◌≡◌, ◌∙◌, ◌++◌, ℕ, List, [], ◌∷◌, map, sym, ap}
 use Rattle.std.specs.Prelude.{All, unwrap_or}
 use Rattle.std.proofs.lemmas.List.{length-map}
 use Rattle.std.proofs.lemmas.List.Elements.{All-nil, All-cons}
@@ -9,7 +9,7 @@ use Rattle.heco_jobs.specs.Outsides.{Outside}
 use Rattle.heco_jobs.specs.declared.product.Product.{Product}
 use Rattle.heco_nums.specs.declared.preset.Preset.{Preset}
 use Rattle.heco_products.specs.Encrypting.{pair_message}
-use Rattle.heco_products.specs.PresetRows.{preset_of}
+use Rattle.heco_nums.specs.PresetRows.{preset_of}
 use Rattle.heco_run_laws.proofs.Measured.{encodings}
 use Rattle.heco_run_laws.proofs.RowsOfMessages.{length-two_rows}
 use Rattle.heco_run_laws.specs.Carried.{two_row_messages}

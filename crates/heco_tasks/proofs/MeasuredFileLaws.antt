@@ -21,7 +21,7 @@ use Rattle.heco_measure.specs.declared.measuring.Measured.{Measured}
 use Rattle.heco_nums.specs.declared.preset.Preset.{Preset}
 use Rattle.heco_products.specs.Encrypting.{encrypted_messages, messages_file}
 use Rattle.heco_products.specs.KeyProducts.{circuit_key, evaluation_file, secret_file}
-use Rattle.heco_products.specs.PresetRows.{preset_of}
+use Rattle.heco_nums.specs.PresetRows.{preset_of}
 use Rattle.heco_products.specs.Results.{keys_of}
 use Rattle.heco_run_laws.specs.Results.{wire_count}
 use Rattle.heco_jobs.specs.Agents.{Agents, asking_none}

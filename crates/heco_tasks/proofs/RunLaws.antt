@@ -1,7 +1,6 @@
 -- The run of a circuit as files and key lists tell it: its keys, what it asks of them, and the parts of its inputs.
-use Rattle.std.proofs.Common.{◌≡◌, ◌≢◌, ◌∙◌, ◌<◌, ◌+◌, ◌&&◌, ◌==◌, not, ℕ, Bool, true, false, List, length, map, get_or, Option, Some, None, Result, Ok, Err, refl, sym, ap, subst, inl, arith}
-use Rattle.std.specs.Prelude.{All, if◌then◌else◌}
-use Rattle.std.specs.List.{slice_get}
+use Rattle.std.proofs.Common.{◌≡◌, ◌≢◌, ◌∙◌, ◌<◌, ◌&&◌, not, ℕ, Bool, true, false, List, length, Option, Some, None, Err, refl, sym, ap, subst, inl}
+use Rattle.std.specs.Prelude.{if◌then◌else◌}
 use Rattle.std.specs.Option.{option_map}
 use Rattle.std.proofs.lemmas.Bool.{eq-eqb}
 use Rattle.std.proofs.lemmas.List.Elements.{All-get_or}
@@ -11,7 +10,7 @@ use Rattle.heco_circuit.specs.Plans.{Plan as Circuit}
 use Rattle.heco_ciphertext_files.specs.CiphertextFiles.{AreCiphertexts, IsTwoParts}
 use Rattle.heco_key_files.specs.KeyFiles.{EvalLists, lists_of}
 use Rattle.heco_keys.specs.declared.eval.Eval.{Eval}
-use Rattle.heco_scheme.specs.Bounds.{AreWords}
+use Rattle.heco_nums.specs.MaterialBounds.{AreWords}
 use Rattle.heco_products.specs.Results.{keys_of}
 use Rattle.heco_run_laws.specs.Runs.{Ciphertext}
 use Rattle.heco_run.specs.Making.{keys_of as run_keys}

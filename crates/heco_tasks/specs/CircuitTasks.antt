@@ -13,7 +13,7 @@ use Rattle.heco_nums.specs.declared.shape.Values.{Values}
 use Rattle.heco_products.specs.Decrypting.{output_wire_count, outputs_text}
 use Rattle.heco_products.specs.Encrypting.{inputs_file}
 use Rattle.heco_products.specs.KeyProducts.{secret_file, evaluation_file}
-use Rattle.heco_products.specs.PresetRows.{preset_of}
+use Rattle.heco_nums.specs.PresetRows.{preset_of}
 use Rattle.heco_products.specs.Results.{results_file}
 use Rattle.heco_texts.specs.Answers.{IsRead}
 use Rattle.heco_jobs.specs.Agents.{Agents, asking_none}

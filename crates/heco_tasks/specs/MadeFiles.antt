@@ -7,7 +7,7 @@ use Rattle.heco_material.specs.KeyLists.{KeyLists}
 use Rattle.heco_material.specs.declared.words.EncRow.{EncRow}
 use Rattle.heco_products.specs.Encrypting.{inputs_file}
 use Rattle.heco_products.specs.KeyProducts.{circuit_key, evaluation_file}
-use Rattle.heco_products.specs.PresetRows.{preset_of}
+use Rattle.heco_nums.specs.PresetRows.{preset_of}
 use Rattle.heco_jobs.specs.Agents.{Agents}
 use Rattle.heco_jobs.specs.Laws.{IsClear, HasFiles}
 use Rattle.heco_jobs.specs.Outsides.{Files}

@@ -6,7 +6,7 @@ use Rattle.heco_key_files.specs.KeyFiles.{EvalLists}
 use Rattle.heco_measure.specs.Lines.{measured_text}
 use Rattle.heco_measure.specs.Measuring.{measured_wires}
 use Rattle.heco_nums.specs.declared.preset.Preset.{Preset}
-use Rattle.heco_products.specs.PresetRows.{preset_of}
+use Rattle.heco_nums.specs.PresetRows.{preset_of}
 use Rattle.heco_products.specs.Results.{keys_of}
 use Rattle.heco_jobs.specs.Agents.{Agents, asking_none}
 use Rattle.heco_jobs.specs.Jobs.{Job, Read, Judge, Give}

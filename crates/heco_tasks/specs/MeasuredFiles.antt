@@ -13,7 +13,7 @@ use Rattle.heco_measure.specs.Measuring.{measured_wires}
 use Rattle.heco_measure.specs.declared.measuring.Measured.{Measured}
 use Rattle.heco_products.specs.Encrypting.{encrypted_messages, inputs_file, messages_file, pairs_file}
 use Rattle.heco_products.specs.KeyProducts.{circuit_key, evaluation_file, secret_file}
-use Rattle.heco_products.specs.PresetRows.{preset_of}
+use Rattle.heco_nums.specs.PresetRows.{preset_of}
 use Rattle.heco_products.specs.Results.{keys_of}
 use Rattle.heco_run_laws.specs.Carried.{two_row_messages}
 use Rattle.heco_run_laws.specs.Measured.{IsMessage}

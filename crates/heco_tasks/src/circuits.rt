@@ -1,23 +1,14 @@
 ghost use Rattle.std.specs.Prelude.{◌≡◌, ◌≤◌, length};
-ghost use Rattle.heco_products.specs.PresetRows.{preset_of};
 ghost use Rattle.heco_texts.specs.Answers.{HaveOwnNames};
 
 use heco_circuit::Circuit;
-use heco_nums::{List, Preset, Shape};
-
-/// The circuit's preset.
-pub fn preset_of(circuit: &Circuit) -> &Preset
-    ensures number { result.now.id ≡ circuit.now.preset }
-    ensures whole { result.now ≡ preset_of circuit.now.preset }
-{
-    circuit.preset()
-}
+use heco_nums::{List, Shape};
 
 /// How many inputs the circuit has.
 pub fn input_count(circuit: &Circuit) -> u32
     ensures { result ≡ length circuit.now.inputs }
 {
-    let _ = circuit.preset();
+    let _valid = circuit.preset();
     circuit.inputs().len() as u32
 }
 
@@ -27,6 +18,6 @@ pub fn inputs_of(circuit: &Circuit) -> &List<Shape>
     ensures count { length result.now ≤ 256 }
     ensures names { HaveOwnNames result.now }
 {
-    let _ = circuit.preset();
+    let _valid = circuit.preset();
     circuit.inputs()
 }

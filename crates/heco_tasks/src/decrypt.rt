@@ -7,7 +7,6 @@ ghost use Rattle.heco_jobs.specs.Stages.{IsGathered};
 ghost use Rattle.heco_jobs.specs.Words.{texts};
 ghost use Rattle.heco_tasks.specs.CircuitTasks.{decrypt_plan, decrypt_job, secret_job, result_job};
 
-use crate::circuits::preset_of;
 use heco_bfv::Ct;
 use heco_circuit::Circuit;
 use heco_files::FileKind;
@@ -74,5 +73,5 @@ pub fn gather_decrypt<S: Store>(
     ensures { (agents : Agents) → IsGathered S.Store (texts words.now) decrypt_plan (decrypt_job agents) agents store.old store.new result }
 {
     let circuit = read_circuit(alloc, words, 1, store)?;
-    gather_secret(alloc, preset_of(&circuit), &circuit, words, store)
+    gather_secret(alloc, circuit.preset(), &circuit, words, store)
 }

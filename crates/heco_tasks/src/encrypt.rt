@@ -9,7 +9,7 @@ ghost use Rattle.heco_jobs.specs.Stages.{IsGathered};
 ghost use Rattle.heco_jobs.specs.Words.{texts};
 ghost use Rattle.heco_tasks.specs.CircuitTasks.{encrypt_plan, encrypt_job, evaluation_job, encryptions_job, inputs_job};
 
-use crate::circuits::{input_count, inputs_of, preset_of};
+use crate::circuits::{input_count, inputs_of};
 use heco_circuit::Circuit;
 use heco_jobs::{Outcome, Product, storing};
 use heco_keys::Eval;
@@ -104,5 +104,5 @@ pub fn gather_encrypt<S: Store>(
     ensures { (agents : Agents) → IsGathered S.Store (texts words.now) encrypt_plan (encrypt_job agents) agents store.old store.new result }
 {
     let circuit = read_circuit(alloc, words, 1, store)?;
-    gather_evaluation(alloc, preset_of(&circuit), &circuit, words, store)
+    gather_evaluation(alloc, circuit.preset(), &circuit, words, store)
 }

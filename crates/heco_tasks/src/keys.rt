@@ -8,7 +8,6 @@ ghost use Rattle.heco_jobs.specs.Stages.{IsGathered};
 ghost use Rattle.heco_jobs.specs.Words.{texts};
 ghost use Rattle.heco_tasks.specs.CircuitTasks.{two_files, keys_plan, keys_job, material_job};
 
-use crate::circuits::preset_of;
 use heco_circuit::{Circuit, needs};
 use heco_jobs::{Outcome, Product, storing_two};
 use heco_key_files::{write_eval, write_secret};
@@ -58,5 +57,5 @@ pub fn gather_keys<S: Store>(
     ensures { (agents : Agents) → IsGathered S.Store (texts words.now) keys_plan (keys_job agents) agents store.old store.new result }
 {
     let circuit = read_circuit(alloc, words, 1, store)?;
-    gather_material(alloc, preset_of(&circuit), &circuit, words, store)
+    gather_material(alloc, circuit.preset(), &circuit, words, store)
 }

@@ -14,7 +14,7 @@ mod run;
 mod running;
 mod show;
 
-pub use circuits::{input_count, inputs_of, preset_of};
+pub use circuits::{input_count, inputs_of};
 pub use compile::{compile_product, compiled};
 pub use decrypt::gather_decrypt;
 pub use draw::gather_draw;

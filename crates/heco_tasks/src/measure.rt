@@ -8,7 +8,7 @@ ghost use Rattle.heco_jobs.specs.Words.{texts};
 ghost use Rattle.heco_tasks.specs.MeasureTask.{measure_plan, measure_job, measured_secret_job, measured_key_job, measured_served_job, noise_job, noise_text};
 ghost use Rattle.heco_tasks.specs.Running.{HasKeys};
 
-use crate::circuits::{input_count, preset_of};
+use crate::circuits::input_count;
 use crate::running::judge_keys;
 use heco_bfv::Ct;
 use heco_circuit::Circuit;
@@ -121,5 +121,5 @@ pub fn gather_measure<S: Store>(
     ensures { (agents : Agents) → IsGathered S.Store (texts words.now) measure_plan (measure_job agents) agents store.old store.new result }
 {
     let circuit = read_circuit(alloc, words, 1, store)?;
-    gather_secret(alloc, preset_of(&circuit), &circuit, words, store)
+    gather_secret(alloc, circuit.preset(), &circuit, words, store)
 }

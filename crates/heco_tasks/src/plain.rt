@@ -13,7 +13,7 @@ use heco_files::print_outputs;
 use heco_jobs::{Outcome, Product, Refusal, printing};
 use heco_nums::{Inputs, Memory, Outputs};
 use heco_outside::Store;
-use heco_reads::{read_source, read_values};
+use heco_reads::{read_source, read_values_file};
 use heco_types::Typed;
 use std::alloc::Global;
 
@@ -64,6 +64,6 @@ pub fn gather_plain<S: Store>(
     ensures { (agents : Agents) → IsGathered S.Store (texts words.now) plain_plan (plain_job agents) agents store.old store.new result }
 {
     let typed = read_source(alloc, words, 1, store)?;
-    let inputs = read_values(alloc, &typed, words, 2, store)?;
+    let inputs = read_values_file(alloc, &typed, words, 2, store)?;
     give_outputs(alloc, &typed, &inputs)
 }

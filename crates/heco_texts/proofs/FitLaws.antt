@@ -1,7 +1,7 @@
 -- The rows that are read fit their shapes.
-use Rattle.std.proofs.Common.{◌≡◌, ◌≢◌, ◌∙◌, ◌⊎◌, inl, inr, refl, sym, ap, subst, ℕ, zero, suc, ◌+◌, ◌<◌, ◌≤◌, Bool, true, false, List, [], ◌∷◌, ◌++◌, length, take, get_or, Option, Some, None, Result, Ok, Err, arith, append_assoc, add-one}
+use Rattle.std.proofs.Common.{◌≡◌, ◌≢◌, ◌∙◌, inl, inr, refl, sym, ap, subst, ℕ, zero, suc, ◌+◌, ◌<◌, ◌≤◌, Bool, true, false, List, [], ◌∷◌, ◌++◌, length, take, get_or, Option, Some, None, Result, Ok, Err, arith, append_assoc, add-one}
 use Rattle.std.specs.Prelude.{◌==◌, IfOk, map, nat_lt, is_some, is_none, unwrap_or}
-use Rattle.std.specs.List.{list_all, flat_map, position_from}
+use Rattle.std.specs.List.{list_all, position_from}
 use Rattle.std.specs.Str.{bytes_eq}
 use Rattle.std.specs.Cmp.Lexicographic.{same_text, other_text}
 use Rattle.std.proofs.lemmas.List.{take_more, take_all}
@@ -11,7 +11,7 @@ use Rattle.heco_texts.specs.Answers.{IsRead, HaveFit, HaveOwnNames}
 use Rattle.heco_texts.specs.Kinds.{LineKind, Idle, Assigned, Formless, kind_of}
 use Rattle.heco_texts.specs.Lines.{lines}
 use Rattle.heco_texts.specs.Numbers.{value_of}
-use Rattle.heco_texts.specs.Rules.{given_by, given_of, len_named, row_named, rule_of, rule_of_name, broken_at, first_missing, row_of, rows_of, NoneBroken}
+use Rattle.heco_texts.specs.Rules.{given_by, given_of, len_named, row_named, rule_of, rule_of_name, row_of, rows_of, NoneBroken}
 use Rattle.heco_texts.specs.declared.error.InputErr.{InputErr}
 use Rattle.heco_texts.specs.declared.given.Given.{Given}
 use Rattle.heco_texts.proofs.LineLaws.{flat_map_push}

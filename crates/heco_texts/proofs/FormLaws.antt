@@ -1,15 +1,15 @@
 -- What a line says, by its form, is what the function of its bytes finds.
-use Rattle.std.proofs.Common.{◌≡◌, ◌∙◌, ◌⊎◌, inl, inr, refl, sym, ap, subst, ℕ, zero, suc, ◌+◌, ◌<◌, ◌≤◌, Bool, true, false, List, [], ◌∷◌, ◌++◌, length, Option, Some, None, arith, append-nil}
-use Rattle.std.specs.Prelude.{◌&&◌, ◌||◌, ◌==◌, not, option_map}
+use Rattle.std.proofs.Common.{◌≡◌, ◌∙◌, inl, inr, refl, sym, ap, subst, ℕ, zero, suc, ◌+◌, ◌<◌, ◌≤◌, Bool, true, false, List, [], ◌∷◌, ◌++◌, length, Option, Some, None, arith, append-nil}
+use Rattle.std.specs.Prelude.{◌&&◌, ◌==◌, not, option_map}
 use Rattle.std.specs.List.{list_all}
 use Rattle.std.proofs.lemmas.Bool.{and_parts}
 use Rattle.std.proofs.lemmas.Bool.Decides.{nat_tests}
 use Rattle.heco_nums.specs.Words.{is_letter, is_word_byte, is_reserved, starts_word, is_word}
-use Rattle.heco_texts.specs.Forms.{is_blank, is_digit, AreBlanks, IsNumber, may_follow, AreNumbers, nothing, blank, number, IsAssignment, IsComment, IsIdle}
-use Rattle.heco_texts.specs.Fronts.{digit_front, digit_back}
-use Rattle.heco_texts.specs.Kinds.{LineKind, Idle, Assigned, Formless, without_blanks, ends_name, name_front, name_back, assigned, behind_name, says_nothing, kind_of, kind_of_bare}
-use Rattle.heco_texts.specs.Numbers.{begins_with_digit, with_byte, numbers_of}
-use Rattle.heco_texts.proofs.NumberLaws.{either, first_digits, front_more, front_stop, back_more, back_stop, back_short, skip_blank, digit_no_blank}
+use Rattle.heco_texts.specs.Forms.{is_blank, is_digit, AreBlanks, IsNumber, may_follow, AreNumbers, nothing, blank, number, IsAssignment, IsIdle}
+use Rattle.heco_texts.specs.inside.Fronts.{digit_front, digit_back}
+use Rattle.heco_texts.specs.Kinds.{Idle, Assigned, without_blanks, ends_name, name_front, name_back, assigned, behind_name, says_nothing, kind_of, kind_of_bare}
+use Rattle.heco_texts.specs.Numbers.{with_byte, numbers_of}
+use Rattle.heco_texts.proofs.NumberLaws.{either, first_digits, front_more, front_stop, back_more, back_stop, back_short, skip_blank}
 
 -- ---- numbers
 

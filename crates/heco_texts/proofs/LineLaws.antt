@@ -1,12 +1,12 @@
 -- Lines of a text, and how far they were read.
-use Rattle.std.proofs.Common.{◌≡◌, ◌≢◌, ◌∙◌, ◌⊎◌, inl, inr, refl, sym, ap, subst, ℕ, zero, suc, ◌+◌, ◌-◌, ◌<◌, ◌≤◌, Bool, true, false, List, [], ◌∷◌, ◌++◌, length, take, drop, get_or, Option, Some, None, arith, append_assoc, append-nil, drop-cons, add-one, length-drop, below_more}
+use Rattle.std.proofs.Common.{◌≡◌, ◌≢◌, ◌∙◌, ◌⊎◌, inl, inr, refl, sym, ap, ℕ, suc, ◌+◌, ◌-◌, ◌<◌, ◌≤◌, Bool, true, false, List, [], ◌∷◌, ◌++◌, length, take, drop, get_or, Some, None, arith, append_assoc, append-nil, drop-cons, add-one, length-drop, below_more}
 use Rattle.std.specs.Prelude.{All, ◌==◌}
 use Rattle.std.specs.List.{flat_map}
 use Rattle.std.proofs.lemmas.Bool.Decides.{nat_tests}
 use Rattle.std.proofs.lemmas.List.{take_more, take_all}
 use Rattle.heco_nums.specs.declared.shape.Shape.{Shape}
-use Rattle.heco_texts.specs.Fronts.{without_cr}
-use Rattle.heco_texts.specs.Lines.{in_front, begins_with_lf, with_first, lines}
+use Rattle.heco_texts.specs.inside.Fronts.{without_cr}
+use Rattle.heco_texts.specs.Lines.{with_first, lines}
 use Rattle.heco_texts.specs.Kinds.{kind_of}
 use Rattle.heco_texts.specs.Rules.{given_by, given_of, rule_of, broken_at, IsFirstBroken, NoneBroken}
 use Rattle.heco_texts.specs.declared.error.InputRule.{InputRule}

@@ -1,14 +1,14 @@
 -- Numbers in a text: their digits, their values up to 32 bits, and how a text splits at the first.
-use Rattle.std.proofs.Common.{◌≡◌, ◌∙◌, ◌⊎◌, inl, inr, Bool, get_or, refl, sym, ap, subst, ℕ, zero, suc, ◌+◌, ◌*◌, ◌-◌, ◌^◌, ◌<◌, ◌≤◌, true, false, List, [], ◌∷◌, ◌++◌, length, take, drop, Option, Some, None, arith, append_assoc}
+use Rattle.std.proofs.Common.{◌≡◌, ◌∙◌, ◌⊎◌, inl, inr, Bool, get_or, refl, sym, ap, subst, ℕ, ◌+◌, ◌*◌, ◌-◌, ◌^◌, ◌<◌, ◌≤◌, true, false, List, [], ◌∷◌, ◌++◌, length, take, drop, Option, Some, None, arith, append_assoc}
 use Rattle.std.specs.Prelude.{min, map, option_map}
 use Rattle.std.specs.Char.{digit_value}
 use Rattle.std.specs.Str.Parse.{digits_value_after}
 use Rattle.std.proofs.lemmas.Bool.Decides.{nat_tests}
 use Rattle.std.proofs.lemmas.List.{take_all}
 use Rattle.heco_texts.specs.Forms.{is_blank, is_digit}
-use Rattle.heco_texts.specs.Fronts.{digit_front, digit_back}
+use Rattle.heco_texts.specs.inside.Fronts.{digit_front, digit_back}
 use Rattle.heco_texts.specs.Kinds.{without_blanks}
-use Rattle.heco_texts.specs.Numbers.{begins_with_digit, longer, one_more, with_byte, numbers_of, capped_value, capped_values}
+use Rattle.heco_texts.specs.Numbers.{longer, with_byte, numbers_of, capped_value, capped_values}
 
 -- the number of the digits behind v, up to 32 bits
 abbrev pub capped_behind : ℕ → List ℕ → ℕ

@@ -1,16 +1,15 @@
 -- What a line says, judged by values of at most 32 bits.
-use Rattle.std.proofs.Common.{◌≡◌, ◌∙◌, ◌⊎◌, inl, inr, refl, sym, ap, subst, ℕ, ◌+◌, ◌-◌, ◌^◌, ◌<◌, ◌≤◌, Bool, true, false, List, [], ◌∷◌, ◌++◌, length, Option, Some, None, arith}
-use Rattle.std.specs.Prelude.{◌&&◌, ◌==◌, not, map, min, nat_lt, is_some, option_map}
+use Rattle.std.proofs.Common.{◌≡◌, ◌∙◌, inl, inr, refl, sym, ap, ℕ, ◌-◌, ◌^◌, ◌<◌, Bool, true, false, List, [], ◌∷◌, length, Option, Some, None, arith}
+use Rattle.std.specs.Prelude.{◌&&◌, ◌==◌, map, min, nat_lt, is_some, option_map}
 use Rattle.std.specs.List.{list_all}
 use Rattle.std.proofs.lemmas.Bool.{and_parts}
 use Rattle.std.proofs.lemmas.Bool.Decides.{nat_tests}
 use Rattle.std.proofs.lemmas.List.{length-map}
 use Rattle.heco_nums.specs.declared.shape.Shape.{Shape}
-use Rattle.heco_texts.specs.Kinds.{LineKind, Idle, Assigned, Formless, assigned, without_blanks, kind_of, kind_of_bare}
+use Rattle.heco_texts.specs.Kinds.{Assigned, assigned, without_blanks, kind_of, kind_of_bare}
 use Rattle.heco_texts.specs.Numbers.{value_of, capped_value, capped_values, numbers_of}
-use Rattle.heco_texts.specs.Rules.{given_of, len_named, row_named, rule_of, rule_of_name, rule_of_values}
+use Rattle.heco_texts.specs.Rules.{given_of, len_named, row_named, rule_of, rule_of_name}
 use Rattle.heco_texts.specs.declared.error.InputRule.{InputRule}
-use Rattle.heco_texts.specs.declared.error.InputRule.TheVariants.{InputText, InputName, InputCount, InputValue}
 use Rattle.heco_texts.specs.declared.given.Given.{Given}
 use Rattle.heco_texts.proofs.NumberLaws.{either}
 

@@ -1,5 +1,5 @@
 -- The answers of reading a text of inputs.
-use Rattle.std.specs.Prelude.{◌≡◌, ◌≢◌, ◌⊎◌, ℕ, ◌<◌, ◌≤◌, ◌^◌, true, List, [], ◌∷◌, Option, Some, None, Result, Ok, Err, length, nat_lt}
+use Rattle.std.specs.Prelude.{◌≡◌, ◌≢◌, ◌⊎◌, ℕ, ◌<◌, ◌≤◌, true, List, [], ◌∷◌, Some, None, Result, Err, length, nat_lt}
 use Rattle.std.specs.List.{list_all, AllPairs}
 use Rattle.heco_nums.specs.declared.shape.Shape.{Shape}
 use Rattle.heco_nums.specs.declared.shape.Values.{Values}

@@ -1,5 +1,5 @@
 -- What a line says, as a function of its bytes.
-use Rattle.std.specs.Prelude.{ℕ, Bool, true, false, ◌&&◌, ◌||◌, ◌==◌, List, [], ◌∷◌, Option, Some, None, if◌then◌else◌}
+use Rattle.std.specs.Prelude.{ℕ, Bool, true, ◌&&◌, ◌||◌, ◌==◌, List, [], ◌∷◌, Option, Some, None, if◌then◌else◌}
 use Rattle.heco_nums.specs.Words.{is_word}
 use Rattle.heco_texts.specs.Forms.{is_blank}
 use Rattle.heco_texts.specs.Numbers.{numbers_of}

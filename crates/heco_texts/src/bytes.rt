@@ -1,6 +1,6 @@
 ghost use Rattle.std.specs.Prelude.{◌≡◌, ◌≢◌, ◌<◌, ◌≤◌, ◌∷◌, ◌++◌, All, IfSome, IfNone, false, length, slice_index};
 ghost use Rattle.heco_texts.specs.Forms.{is_blank, is_digit};
-ghost use Rattle.heco_texts.specs.Fronts.{without_cr};
+ghost use Rattle.heco_texts.specs.inside.Fronts.{without_cr};
 ghost use Rattle.heco_texts.specs.Kinds.{without_blanks, ends_name, name_front, name_back};
 ghost use Rattle.heco_texts.specs.Lines.{lines};
 

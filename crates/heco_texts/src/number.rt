@@ -1,5 +1,5 @@
 ghost use Rattle.std.specs.Prelude.{◌≡◌, IfOk};
-ghost use Rattle.heco_texts.specs.Fronts.{digit_back, digit_front};
+ghost use Rattle.heco_texts.specs.inside.Fronts.{digit_back, digit_front};
 ghost use Rattle.heco_texts.specs.Numbers.{capped_value, capped_values};
 
 use crate::bytes::{is_digit, without_blanks};

@@ -2,16 +2,14 @@ ghost use Rattle.std.specs.Prelude.{◌≡◌, ◌++◌, IfOk, OnOk, length};
 ghost use Rattle.std.specs.List.{flat_map};
 ghost use Rattle.heco_texts.specs.Outputs.{value_words, output_line, output_text};
 
-use heco_nums::{Bytes, List, Memory, Outputs, Shape};
-use itoa::Buffer;
+use heco_nums::{Bytes, List, Memory, Outputs, Shape, put_number};
 use std::alloc::Global;
 
 fn put_value(out: &mut Bytes, value: u32) -> Result<(), Memory>
     ensures { OnOk result (out.new ≡ out.old ++ value_words value) }
 {
-    let mut buffer = Buffer::new();
     out.extend_from_slice(b" ")?;
-    out.extend_from_slice(buffer.format(value).as_bytes())
+    put_number(out, u128::from(value))
 }
 
 fn put_values(out: &mut Bytes, row: &[u32]) -> Result<(), Memory>

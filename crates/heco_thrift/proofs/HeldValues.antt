@@ -1,10 +1,11 @@
 -- Outputs that hold homes are what the homes hold.
-use Rattle.std.proofs.Common.{◌≡◌, ◌∙◌, ℕ, ◌-◌, ◌%◌, ◌<◌, ◌≤◌, Bool, true, ◌&&◌, List, [], ◌∷◌, ◌++◌, length, map, refl, sym, ap, ap₂, arith, nat_le, ◌==◌, if◌then◌else◌, mod-eq_of_lt}
+use Rattle.std.proofs.Common.{◌≡◌, ◌∙◌, ℕ, ◌-◌, ◌%◌, ◌<◌, ◌≤◌, Bool, true, ◌&&◌, List, [], ◌∷◌, ◌++◌, length, map, refl, sym, ap, ap₂, arith, nat_le, mod-eq_of_lt}
 use Rattle.std.specs.List.{AllZip, flat_map, list_all}
-use Rattle.std.proofs.lemmas.Bool.{and_parts, and_from, cond_both, leb-true}
+use Rattle.std.proofs.lemmas.Bool.{and_parts, and_from, leb-true}
 use Rattle.heco_nums.specs.Presets.{modulus_of, slots_of}
 use Rattle.heco_nums.specs.declared.shape.Shape.{Shape}
-use Rattle.heco_fields.specs.Runs.{all_along}
+use Rattle.heco_nums.specs.Runs.{all_along}
+use Rattle.heco_nums.proofs.PresetCases.{modulus_pos}
 use Rattle.heco_circuit.specs.Circuits.{IsCircuit}
 use Rattle.heco_circuit.specs.Plans.{Plan, push, is_cell, is_output, is_name, wire_parts, are_inputs, are_vectors, are_gates, are_outputs}
 use Rattle.heco_circuit.specs.Validity.{is_between}
@@ -13,17 +14,10 @@ use Rattle.heco_circuit.specs.declared.gate.Cell.TheVariants.{Number, Slot}
 use Rattle.heco_circuit.specs.declared.gate.Output.{Output}
 use Rattle.heco_meaning.specs.Meanings.{cell_value, wires_of}
 use Rattle.heco_texts.specs.Answers.{HaveFit}
-use Rattle.heco_written.specs.WrittenForm.{Home, Known, At, home_value}
+use Rattle.heco_written.specs.WrittenForm.{WrittenHome, Known, At, home_value}
 use Rattle.heco_thrift.specs.Homes.{world_of, HoldsHome, all_cells, HoldsHomes}
 
 -- ---- what a valid circuit's elements are
-
-pub modulus_pos : (id : ℕ) → 0 < modulus_of id
-modulus_pos id =
-    cond_both (id == 1) 257 (if id == 2 then 257 else if id == 3 then 257 else if id == 4 then 65537 else 65537) (λ t. 0 < t) (λ e. omega arith) (λ e.
-    cond_both (id == 2) 257 (if id == 3 then 257 else if id == 4 then 65537 else 65537) (λ t. 0 < t) (λ e. omega arith) (λ e.
-    cond_both (id == 3) 257 (if id == 4 then 65537 else 65537) (λ t. 0 < t) (λ e. omega arith) (λ e.
-    cond_both (id == 4) 65537 65537 (λ t. 0 < t) (λ e. omega arith) (λ e. omega arith))))
 
 list_all_append : {A : Type 0} (test : A → Bool) (xs ys : List A) → list_all test xs ≡ true → list_all test ys ≡ true → list_all test (xs ++ ys) ≡ true
 list_all_append test [] ys h k = k
@@ -50,7 +44,7 @@ circuit_cells c valid =
 within : (t n : ℕ) → 0 < t → n ≤ t - 1 → n ≡ n % t
 within t n p h = sym (mod-eq_of_lt (omega arith))
 
-cell_is : (c : Plan) (rows : List (List ℕ)) (cell : Cell) (home : Home) → is_cell (modulus_of c.preset) (slots_of c.preset) (wire_parts c) cell ≡ true → HaveFit (modulus_of c.preset) c.inputs rows → HoldsHome c cell home
+cell_is : (c : Plan) (rows : List (List ℕ)) (cell : Cell) (home : WrittenHome) → is_cell (modulus_of c.preset) (slots_of c.preset) (wire_parts c) cell ≡ true → HaveFit (modulus_of c.preset) c.inputs rows → HoldsHome c cell home
     → cell_value (wires_of c rows) cell ≡ home_value (world_of c.preset rows) home
 cell_is c rows (Number n) (Known d) valid fit e =
     let both = and_parts (nat_le 0 n) (nat_le n (modulus_of c.preset - 1)) valid in
@@ -59,7 +53,7 @@ cell_is c rows (Slot wire slot) (At p) valid fit h = h.means rows fit
 cell_is c rows (Number n) (At p) valid fit h = absurd h
 cell_is c rows (Slot wire slot) (Known d) valid fit h = absurd h
 
-cells_are : (c : Plan) (rows : List (List ℕ)) (cells : List Cell) (homes : List Home) → list_all (is_cell (modulus_of c.preset) (slots_of c.preset) (wire_parts c)) cells ≡ true → HaveFit (modulus_of c.preset) c.inputs rows
+cells_are : (c : Plan) (rows : List (List ℕ)) (cells : List Cell) (homes : List WrittenHome) → list_all (is_cell (modulus_of c.preset) (slots_of c.preset) (wire_parts c)) cells ≡ true → HaveFit (modulus_of c.preset) c.inputs rows
     → AllZip (HoldsHome c) cells homes → map (cell_value (wires_of c rows)) cells ≡ map (home_value (world_of c.preset rows)) homes
 cells_are c rows [] [] valid fit h = refl
 cells_are c rows [] (home ∷ homes) valid fit h = absurd h
@@ -68,5 +62,5 @@ cells_are c rows (cell ∷ cells) (home ∷ homes) valid fit h =
     let both = and_parts (is_cell (modulus_of c.preset) (slots_of c.preset) (wire_parts c) cell) (list_all (is_cell (modulus_of c.preset) (slots_of c.preset) (wire_parts c)) cells) valid in
     ap₂ (λ x (xs : List ℕ). x ∷ xs) (cell_is c rows cell home both.0 fit h.0) (cells_are c rows cells homes both.1 fit h.1)
 
-pub held_values : (c : Plan) (homes : List Home) (rows : List (List ℕ)) → IsCircuit c → HoldsHomes c homes → HaveFit (modulus_of c.preset) c.inputs rows → map (cell_value (wires_of c rows)) (all_cells c) ≡ map (home_value (world_of c.preset rows)) homes
+pub held_values : (c : Plan) (homes : List WrittenHome) (rows : List (List ℕ)) → IsCircuit c → HoldsHomes c homes → HaveFit (modulus_of c.preset) c.inputs rows → map (cell_value (wires_of c rows)) (all_cells c) ≡ map (home_value (world_of c.preset rows)) homes
 held_values c homes rows valid hold fit = cells_are c rows (all_cells c) homes (circuit_cells c valid) fit hold

@@ -9,7 +9,7 @@ use Rattle.heco_meaning.specs.Meanings.{wire_at, wires_of}
 use Rattle.heco_texts.specs.Answers.{HaveFit}
 use Rattle.heco_written.specs.VectorTerm.{slot_value}
 use Rattle.heco_written.specs.World.{World}
-use Rattle.heco_written.specs.WrittenForm.{Home, Known, At, Place}
+use Rattle.heco_written.specs.WrittenForm.{WrittenHome, Known, At, Place}
 
 -- these values of the inputs, under the preset of this number
 abbrev pub world_of : ℕ → List (List ℕ) → World
@@ -21,7 +21,7 @@ pub record HoldsPlace (c : Plan) (wire slot : ℕ) (p : Place) : Type 0 where
       → slice_index (wire_at (wires_of c rows) wire) slot ≡ slot_value (world_of c.preset rows) p.vector p.slot
 
 -- an element is a number exactly where its home is that number; else its wire holds the home's place
-abbrev pub HoldsHome : Plan → Cell → Home → Type 0
+abbrev pub HoldsHome : Plan → Cell → WrittenHome → Type 0
 HoldsHome c (Number n) (Known d) = n ≡ d
 HoldsHome c (Slot wire slot) (At p) = HoldsPlace c wire slot p
 HoldsHome c (Number n) (At p) = ⊥
@@ -36,5 +36,5 @@ abbrev pub all_cells : Plan → List Cell
 all_cells c = flat_map (λ o. o.cells) c.outputs
 
 -- each element of the outputs, in order, holds its home
-abbrev pub HoldsHomes : Plan → List Home → Type 0
+abbrev pub HoldsHomes : Plan → List WrittenHome → Type 0
 HoldsHomes c homes = AllZip (HoldsHome c) (all_cells c) homes

@@ -1,5 +1,5 @@
 -- Of each command, what the laws of jobs ask. A later command adds its cases.
-use Rattle.std.proofs.Common.{◌<◌, arith}
+use Rattle.std.proofs.Common.{arith}
 use Rattle.heco_jobs.specs.Agents.{Agents}
 use Rattle.heco_jobs.proofs.DoneLaws.{Tells}
 use Rattle.heco_jobs.proofs.PlanLaws.{Plans, ArePositive}

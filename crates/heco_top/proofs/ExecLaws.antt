@@ -1,7 +1,6 @@
 -- The headline follows where `exec` is done, and after Ok nothing went to the error stream.
 use Rattle.std.proofs.Common.{◌≡◌, ◌∙◌, ℕ, Bool, true, false, List, [], ◌∷◌, ◌++◌, Option, Some, None, inl, inr, refl, sym, ap, append-nil, arith, length}
 use Rattle.std.specs.Prelude.{if◌then◌else◌}
-use Rattle.heco_outside.specs.Calls.{GrowsByPrefix}
 use Rattle.heco_exec.proofs.Executed.{done_is_executed}
 use Rattle.heco_exec.proofs.WrittenFiles.{distinct_are_apart}
 use Rattle.heco_exec.specs.Headline.{AreApart}

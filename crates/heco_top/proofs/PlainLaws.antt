@@ -10,7 +10,7 @@ use Rattle.heco_jobs.specs.declared.product.Product.{Product}
 use Rattle.heco_tasks.specs.SourceTasks.{plain_job, values_job, outputs_job}
 use Rattle.heco_top.specs.Answers.{IsPlainText, DoneFor, PrintsFor}
 use Rattle.heco_top.specs.declared.command.Command.{Command}
-use Rattle.heco_top.specs.declared.command.Command.TheVariants.{Plain, Compile, Show, Draw, Keys, Encrypt, Run, Decrypt, Measure, Exec, Pair, Sample}
+use Rattle.heco_top.specs.declared.command.Command.TheVariants.{Plain}
 
 module _ (words : List (List ℕ)) (agents left : Agents) where
   owed_text : (file : Files) (p : Product) → Owes words (plain_job agents) left file p → IsPlainText words file (unwrap_or p.text [])

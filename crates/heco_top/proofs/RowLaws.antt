@@ -1,12 +1,12 @@
 -- A command with a headline is asked for by its own row alone.
-use Rattle.std.proofs.Common.{◌≡◌, ℕ, Bool, true, false, List, [], ◌∷◌, Option, Some, None, inl, inr, refl}
+use Rattle.std.proofs.Common.{◌≡◌, ℕ, Bool, true, false, List, [], ◌∷◌, Option, Some, None, inl, inr}
 use Rattle.std.specs.Prelude.{◌⊎◌, if◌then◌else◌, codes}
 use Rattle.std.specs.Option.{option_map}
 use Rattle.std.specs.Str.{bytes_eq}
 use Rattle.heco_jobs.specs.Words.{are_distinct}
 use Rattle.heco_top.specs.Commands.{command_of, plain_of, compile_of, show_of, draw_of, keys_of, encrypt_of, run_of, decrypt_of, measure_of, exec_of, pair_of, sample_of}
 use Rattle.heco_top.specs.declared.command.Command.{Command}
-use Rattle.heco_top.specs.declared.command.Command.TheVariants.{Plain, Compile, Show, Draw, Keys, Encrypt, Run, Decrypt, Measure, Exec, Pair, Sample}
+use Rattle.heco_top.specs.declared.command.Command.TheVariants.{Plain, Compile, Show, Draw, Keys, Encrypt, Run, Decrypt, Measure, Sample}
 use Rattle.heco_top.specs.Seeds.{seed_of}
 
 -- a test that no command passes but `exec` or `pair`

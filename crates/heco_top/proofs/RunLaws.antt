@@ -1,5 +1,5 @@
 -- What follows of a whole command from its two halves: what was gathered, and what was done with it.
-use Rattle.std.proofs.Common.{◌≡◌, ◌≤◌, ◌∙◌, ℕ, List, Option, sym, subst, inl, inr, arith, true, false}
+use Rattle.std.proofs.Common.{◌≡◌, ◌≤◌, ◌∙◌, ℕ, sym, subst, inl, inr, arith, false}
 use Rattle.std.specs.Prelude.{is_some}
 use Rattle.heco_jobs.specs.Laws.{IsLeft, IsUntouched}
 use Rattle.heco_jobs.specs.Plans.{Plan, IsOne, IsCause, IsGatherCause, IsFinishCause, FitsPlan}

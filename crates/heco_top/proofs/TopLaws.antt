@@ -1,14 +1,11 @@
 -- What follows, for whatever words, from how they ended.
-use Rattle.std.proofs.Common.{◌≡◌, ◌≤◌, ◌∙◌, ℕ, List, Option, Some, None, Result, Ok, Err, refl, sym, ap, subst, inl, inr, arith, true, false}
-use Rattle.std.specs.Prelude.{is_some, IfErr}
+use Rattle.std.proofs.Common.{ℕ, List, Option, Some, None, sym, subst, inl, inr}
 use Rattle.heco_outside.specs.Causes.{Rose}
-use Rattle.heco_outside.specs.declared.store.Call.{Call}
 use Rattle.heco_jobs.specs.Agents.{Agents}
 use Rattle.heco_jobs.specs.Laws.{Stands, IsOkOrMemory, IsNoFault}
 use Rattle.heco_jobs.specs.Outsides.{Files, Outside}
 use Rattle.heco_jobs.specs.declared.outcome.Outcome.{Outcome}
 use Rattle.heco_jobs.specs.declared.outcome.Outcome.TheVariants.{Ok as Fine, Refused, ReadFault, WriteFault, Memory}
-use Rattle.heco_jobs.specs.declared.outcome.Refusal.{Refusal}
 use Rattle.heco_jobs.proofs.DoneLaws.{job_done_as_owed}
 use Rattle.heco_jobs.proofs.EndLaws.{job_stands, same_stand, job_not_refused}
 use Rattle.heco_jobs.proofs.PlanLaws.{job_follows}

@@ -2,7 +2,7 @@ ghost use Rattle.std.specs.Prelude.{◌≡◌, IfErr, List, map};
 ghost use Rattle.heco_good.specs.Compiled.{IsPassedOf};
 ghost use Rattle.heco_material.specs.KeyLists.{lists_of};
 ghost use Rattle.heco_peep.specs.Rules.{Handed};
-ghost use Rattle.heco_products.specs.PresetRows.{preset_of};
+ghost use Rattle.heco_nums.specs.PresetRows.{preset_of};
 ghost use Rattle.heco_reads.specs.SourceFiles.{HasText};
 ghost use Rattle.heco_syntax.specs.declared.tree.Source.{Source};
 ghost use Rattle.heco_texts.specs.Answers.{HaveFit};
@@ -23,7 +23,7 @@ use heco_outside::Store;
 use heco_peep::Pass;
 use heco_reads::{read_encryptions, read_inputs, read_source};
 use heco_sched::Picker;
-use heco_tasks::{input_count, inputs_of, preset_of};
+use heco_tasks::{input_count, inputs_of};
 use heco_types::Typed;
 use std::alloc::Global;
 
@@ -40,12 +40,12 @@ fn gather_encryptions<S: Store>(
     requires fit { HaveFit (preset_of circuit.now.preset).t circuit.now.inputs values.now.rows }
     requires keys { AreKeysFor circuit.now k.now }
     ensures gathered { (s : Source) (handed left : List Handed) → IsPassedOf s handed circuit.now left → IsGathered S.Store (texts words.now) exec_plan
-        (encryptions_job (agents (picking (rule picker.old) (state picker.old)) handed) s values.now (lists_of k.now)) (agents (picking (rule picker.new) (state picker.new)) left) store.old store.new result }
+        (encryptions_job (agents (picking (rule picker.old) (state picker.old)) handed) s values.now (lists_of k.now))
+        (agents (picking (rule picker.new) (state picker.new)) left) store.old store.new result }
     ensures rule { rule picker.new ≡ rule picker.old }
     ensures left { IfErr result (λ outcome. IsLeft outcome picker.old picker.new) }
 {
-    let _ = circuit.preset();
-    let preset = preset_of(circuit);
+    let preset = circuit.preset();
     let material = read_encryptions(alloc, preset, input_count(circuit), words, 4, store)?;
     let product = chain_product(alloc, circuit, k, &material, values, picker)?;
     Ok(product)
@@ -83,7 +83,7 @@ fn gather_inputs<S: Store>(
     ensures rule { rule picker.new ≡ rule picker.old }
     ensures left { IfErr result (λ outcome. IsLeft outcome picker.old picker.new) }
 {
-    let preset = preset_of(circuit);
+    let preset = circuit.preset();
     let values = read_inputs(alloc, preset, inputs_of(circuit), words, 2, store)?;
     gather_keys(alloc, circuit, &values, words, store, picker)
 }

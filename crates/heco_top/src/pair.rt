@@ -2,7 +2,7 @@ ghost use Rattle.std.specs.Prelude.{◌≡◌, IfErr, List, map};
 ghost use Rattle.heco_good.specs.Compiled.{IsPassedOf};
 ghost use Rattle.heco_material.specs.KeyLists.{lists_of};
 ghost use Rattle.heco_peep.specs.Rules.{Handed};
-ghost use Rattle.heco_products.specs.PresetRows.{preset_of};
+ghost use Rattle.heco_nums.specs.PresetRows.{preset_of};
 ghost use Rattle.heco_reads.specs.SourceFiles.{HasText};
 ghost use Rattle.heco_syntax.specs.declared.tree.Source.{Source};
 ghost use Rattle.heco_texts.specs.Answers.{HaveFit};
@@ -24,7 +24,7 @@ use heco_pair::pair_product;
 use heco_peep::Pass;
 use heco_reads::{read_encryptions, read_inputs, read_second_inputs, read_source};
 use heco_sched::Picker;
-use heco_tasks::{input_count, inputs_of, preset_of};
+use heco_tasks::{input_count, inputs_of};
 use heco_types::Typed;
 use std::alloc::Global;
 
@@ -43,12 +43,12 @@ fn gather_encryptions<S: Store>(
     requires second { HaveFit (preset_of circuit.now.preset).t circuit.now.inputs second.now.rows }
     requires keys { AreKeysFor circuit.now k.now }
     ensures gathered { (s : Source) (handed left : List Handed) → IsPassedOf s handed circuit.now left → IsGathered S.Store (texts words.now) pair_plan
-        (encryptions_job (agents (picking (rule picker.old) (state picker.old)) handed) s first.now second.now (lists_of k.now)) (agents (picking (rule picker.new) (state picker.new)) left) store.old store.new result }
+        (encryptions_job (agents (picking (rule picker.old) (state picker.old)) handed) s first.now second.now (lists_of k.now))
+        (agents (picking (rule picker.new) (state picker.new)) left) store.old store.new result }
     ensures rule { rule picker.new ≡ rule picker.old }
     ensures left { IfErr result (λ outcome. IsLeft outcome picker.old picker.new) }
 {
-    let _ = circuit.preset();
-    let preset = preset_of(circuit);
+    let preset = circuit.preset();
     let material = read_encryptions(alloc, preset, input_count(circuit), words, 5, store)?;
     let product = pair_product(alloc, circuit, k, &material, first, second, picker)?;
     Ok(product)
@@ -90,7 +90,7 @@ fn gather_second<S: Store>(
     ensures rule { rule picker.new ≡ rule picker.old }
     ensures left { IfErr result (λ outcome. IsLeft outcome picker.old picker.new) }
 {
-    let preset = preset_of(circuit);
+    let preset = circuit.preset();
     let second = read_second_inputs(alloc, preset, inputs_of(circuit), words, 3, store)?;
     gather_keys(alloc, circuit, first, &second, words, store, picker)
 }
@@ -108,7 +108,7 @@ fn gather_first<S: Store>(
     ensures rule { rule picker.new ≡ rule picker.old }
     ensures left { IfErr result (λ outcome. IsLeft outcome picker.old picker.new) }
 {
-    let preset = preset_of(circuit);
+    let preset = circuit.preset();
     let first = read_inputs(alloc, preset, inputs_of(circuit), words, 2, store)?;
     gather_second(alloc, circuit, &first, words, store, picker)
 }

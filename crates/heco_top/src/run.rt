@@ -16,7 +16,7 @@ use heco_nums::Preset;
 use heco_outside::Store;
 use heco_reads::{read_ciphertexts, read_circuit, read_evaluation};
 use heco_sched::Picker;
-use heco_tasks::{input_count, judge_keys, preset_of, run_product};
+use heco_tasks::{input_count, judge_keys, run_product};
 use std::alloc::Global;
 
 // All behind the judged key.
@@ -96,5 +96,5 @@ pub fn gather_run<S: Store>(
     ensures left { IfErr result (λ outcome. IsLeft outcome picker.old picker.new) }
 {
     let circuit = read_circuit(alloc, words, 1, store)?;
-    gather_key(alloc, preset_of(&circuit), &circuit, words, store, picker)
+    gather_key(alloc, circuit.preset(), &circuit, words, store, picker)
 }

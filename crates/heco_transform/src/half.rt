@@ -4,10 +4,8 @@ ghost use Rattle.heco_ring.specs.Remainders.{rem, reduced};
 ghost use Rattle.heco_ring.specs.Ring.{table, wholes, plus, times};
 
 use crate::{Image, ImageSum, Transform};
-use heco_nums::Memory;
+use heco_nums::{Memory, Q_MASK};
 use std::alloc::Global;
-
-const MASK: u64 = (1 << 58) - 1;
 
 /// The images of the low and the high 29 bits of a polynomial of words below 2^58.
 #[derive(Debug, Drop)]
@@ -28,7 +26,7 @@ pub struct HalfSums {
 fn halves_together(x: u64, low: u64, high: u64) -> u64
     ensures { result ≡ rem (2 ^ 58) (pos x +ℤ pos low +ℤ pos (2 ^ 29) *ℤ pos high) }
 {
-    x.wrapping_add(low).wrapping_add(high << 29) & MASK
+    x.wrapping_add(low).wrapping_add(high << 29) & Q_MASK
 }
 
 /// Each word gains that of low and 2^29 times that of high, modulo 2^58.

@@ -4,16 +4,14 @@ ghost use Rattle.heco_ring.specs.Remainders.{rem, reduced};
 ghost use Rattle.heco_ring.specs.Ring.{table, wholes, plus, times};
 
 use crate::{Image, ImageSum, Transform};
-use heco_nums::Memory;
+use heco_nums::{Memory, Q_MASK};
 use std::alloc::Global;
-
-const MASK: u64 = (1 << 58) - 1;
 
 /// x + 2^20 y + 2^40 z modulo 2^58.
 fn limbs_together(x: u64, y: u64, z: u64) -> u64
     ensures { result ≡ rem (2 ^ 58) (pos x +ℤ pos (2 ^ 20) *ℤ pos y +ℤ pos (2 ^ 40) *ℤ pos z) }
 {
-    x.wrapping_add(y << 20).wrapping_add(z << 40) & MASK
+    x.wrapping_add(y << 20).wrapping_add(z << 40) & Q_MASK
 }
 
 /// Each word becomes itself and 2^20 times that of y and 2^40 times that of z, modulo 2^58.

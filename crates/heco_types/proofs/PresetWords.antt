@@ -3,18 +3,13 @@ use Rattle.std.proofs.Common.{◌≡◌, ◌≢◌, refl, sym, ap, subst, ℕ, z
 use Rattle.std.specs.Str.{bytes_eq}
 use Rattle.std.proofs.Math.Dec.{eqb-suc-zero}
 use Rattle.std.proofs.lemmas.Slice.Eq.{bytes_eq-Decides}
-use Rattle.heco_nums.specs.Presets.{preset_name, slots_of}
+use Rattle.heco_nums.specs.Presets.{preset_name}
+use Rattle.heco_nums.proofs.PresetCases.{by_preset, slots_pos, slots_few}
 use Rattle.heco_types.specs.Presets.{id_named, names_preset, slots_named}
 use Rattle.heco_types.specs.Typing.{NamesPreset}
 
 id_of_name : (id : ℕ) → 1 ≤ id → id ≤ 5 → id_named (preset_name id) ≡ id
-id_of_name zero low high = absurd (omega arith)
-id_of_name (suc zero) low high = refl
-id_of_name (suc (suc zero)) low high = refl
-id_of_name (suc (suc (suc zero))) low high = refl
-id_of_name (suc (suc (suc (suc zero)))) low high = refl
-id_of_name (suc (suc (suc (suc (suc zero))))) low high = refl
-id_of_name (suc (suc (suc (suc (suc (suc n)))))) low high = absurd (omega arith)
+id_of_name = by_preset (λ id. id_named (preset_name id) ≡ id) refl refl refl refl refl
 
 pub id_named-is : (id : ℕ) (text : List ℕ) → 1 ≤ id → id ≤ 5 → preset_name id ≡ text → id_named text ≡ id
 id_named-is id text low high e = subst (λ t. id_named t ≡ id) e (id_of_name id low high)
@@ -63,14 +58,5 @@ pub names-one : (id : ℕ) (text : List ℕ) → 1 ≤ id → id ≤ 5 → prese
 names-one zero text low high e = absurd (omega arith)
 names-one (suc n) text low high e = subst (λ i. not (i == 0) ≡ true) (sym (id_named-is (suc n) text low high e)) (ap not (eqb-suc-zero n))
 
-slots_fit : (id : ℕ) → 1 ≤ id → id ≤ 5 → (1 ≤ slots_of id) × (slots_of id ≤ 512)
-slots_fit zero low high = absurd (omega arith)
-slots_fit (suc zero) low high = (omega arith, omega arith)
-slots_fit (suc (suc zero)) low high = (omega arith, omega arith)
-slots_fit (suc (suc (suc zero))) low high = (omega arith, omega arith)
-slots_fit (suc (suc (suc (suc zero)))) low high = (omega arith, omega arith)
-slots_fit (suc (suc (suc (suc (suc zero))))) low high = (omega arith, omega arith)
-slots_fit (suc (suc (suc (suc (suc (suc n)))))) low high = absurd (omega arith)
-
 pub slots-fit : (text : List ℕ) → names_preset text ≡ true → (1 ≤ slots_named text) × (slots_named text ≤ 512)
-slots-fit text t = let h = named_is text (not_zero (id_named text) t) in slots_fit (id_named text) h.low h.high
+slots-fit text t = (slots_pos (id_named text), slots_few (id_named text))

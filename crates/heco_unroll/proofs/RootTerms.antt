@@ -11,7 +11,7 @@ use Rattle.heco_ir.specs.Values.{all_below, numbers}
 use Rattle.heco_ir.proofs.Built.{both}
 use Rattle.heco_unroll.specs.declared.operand.Operand.{Operand}
 use Rattle.heco_unroll.specs.Operands.{node_of}
-use Rattle.heco_unroll.specs.Roots.{row_nodes, root_nodes}
+use Rattle.heco_unroll.specs.inside.Roots.{row_nodes, root_nodes}
 use Rattle.heco_ir.specs.Unrolled.{root_terms}
 use Rattle.heco_unroll.proofs.Standing.{Grows, HasTerm, grows_none, grows_further, has_term_stays, node_of_grows}
 use Rattle.heco_unroll.proofs.Rows.{RowStands, RowsStand, row_stays, rows_stay}

@@ -18,9 +18,9 @@ use Rattle.heco_ir.specs.declared.scalar.SNode.{SNode}
 use Rattle.heco_ir.specs.Unrolled.{operations, root_terms}
 use Rattle.heco_ir.specs.Values.{all_below, numbers}
 use Rattle.heco_unroll.specs.declared.operand.Operand.{Operand}
-use Rattle.heco_unroll.specs.Elements.{element_rows}
+use Rattle.heco_unroll.specs.inside.Elements.{element_rows}
 use Rattle.heco_unroll.specs.Operands.{node_secrets}
-use Rattle.heco_unroll.specs.Roots.{root_nodes}
+use Rattle.heco_unroll.specs.inside.Roots.{root_nodes}
 use Rattle.heco_unroll.specs.Unrolling.{element_terms}
 use Rattle.heco_unroll.proofs.Counting.{nodes_light, element_rows_none, root_nodes_none}
 use Rattle.heco_unroll.proofs.Operations.{nodes_follow}

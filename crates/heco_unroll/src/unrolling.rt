@@ -74,7 +74,7 @@ pub fn unroll<'b>(alloc: Global, t: &Typed, b: &'b Bump) -> Result<Ir<'b, Scalar
     ensures operations { IfOk result (λ ir. operations ir.0 ≤ 524288) }
 {
     // Each output has at most 4,096 elements.
-    let _ = t.outputs();
+    let _valid = t.outputs();
     let ir = unroll_source(alloc, t.preset(), t.source(), t.inputs().as_slice(), b)?;
     Ok(ir)
 }

@@ -9,7 +9,7 @@ use lib.ListN.{length, set, take}
 use Rattle.std.specs.Prelude.{◌≢◌}
 use Rattle.std.proofs.lemmas.Bool.{cases_eq}
 use Rattle.std.proofs.lemmas.List.{get_or-set_same, get_or-set_other, take-append-le, take_all}
-use Rattle.heco_wide.specs.Wide.{int_at}
+use Rattle.heco_wide.specs.inside.Wide.{int_at}
 
 -- the first i numbers are changed by f, the others stand
 pub record Changed (i : ℕ) (old new : List ℤ) (f : ℕ → ℤ → ℤ) : Type 0 where

@@ -9,7 +9,7 @@ use Rattle.heco_ring.proofs.Sizes.{abs_add}
 use Rattle.heco_ring.specs.Ring.{at, plus, table, times_at}
 use Rattle.heco_transform.proofs.HalfLaws.{short}
 use Rattle.heco_wide.specs.Limbs.{Limbs, AreImages, HasLimbs, HasLimbsOf, RoomFits, limb_part}
-use Rattle.heco_wide.specs.Wide.{int_at, FitsAll}
+use Rattle.heco_wide.specs.inside.Wide.{int_at, FitsAll}
 use Rattle.heco_wide.specs.declared.limbs.LimbImages.{LimbImages}
 use Rattle.heco_wide.specs.declared.room.Room.{Room}
 use Rattle.heco_wide.proofs.LimbLaws.{AreSmall, joined, joined_none, joined_small, joined_next, joined_plus, part_small, product_joined, at-first}

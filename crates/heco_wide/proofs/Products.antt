@@ -19,7 +19,7 @@ use Rattle.heco_ring.specs.Sizes.{weight}
 use Rattle.heco_scheme.proofs.ProductNoise.{centre_small}
 use Rattle.heco_scheme.specs.Rounding.{centred, rounded_all}
 use Rattle.heco_wide.specs.Limbs.{HasLimbs, HasLimbsOf}
-use Rattle.heco_wide.specs.Wide.{int_at, FitsAll}
+use Rattle.heco_wide.specs.inside.Wide.{int_at, FitsAll}
 use Rattle.heco_wide.specs.declared.limbs.LimbImages.{LimbImages}
 
 pub some_limbs : (depth : ℕ) (a : List ℤ) (i : LimbImages) → HasLimbsOf depth a i → HasLimbs depth i

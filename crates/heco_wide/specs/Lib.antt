@@ -1,3 +1,3 @@
 pub mod Limbs
 pub mod Rooms
-pub mod Wide
+pub mod inside

@@ -3,7 +3,7 @@ ghost use lib.IntN.{ℤ, pos, ◌+ℤ◌, ◌*ℤ◌, nat_abs};
 ghost use Rattle.heco_ring.specs.Ring.{at, plus, times, times_at};
 ghost use Rattle.heco_transform.specs.Images.{IsSumOf};
 ghost use Rattle.heco_wide.specs.Limbs.{ImagesFit, HasLimbs, HasLimbsOf, RoomFits};
-ghost use Rattle.heco_wide.specs.Wide.{int_at, FitsAll};
+ghost use Rattle.heco_wide.specs.inside.Wide.{int_at, FitsAll};
 
 use crate::limbs::LimbImages;
 use crate::part::add_part;

@@ -3,7 +3,7 @@ ghost use Rattle.std.specs.Int.RustNames.{unsigned_abs};
 ghost use Rattle.heco_ring.specs.Remainders.{rem};
 ghost use Rattle.heco_noise_laws.specs.Noise.{rounded};
 ghost use Rattle.heco_scheme.specs.Rounding.{rounded_all};
-ghost use Rattle.heco_wide.specs.Wide.{FitsAll};
+ghost use Rattle.heco_wide.specs.inside.Wide.{FitsAll};
 
 use heco_poly::Poly;
 

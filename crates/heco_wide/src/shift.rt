@@ -1,7 +1,7 @@
 ghost use Rattle.std.specs.Prelude.{◌≡◌, ◌/◌, ◌<◌, ◌^◌, All, EachIndex, length, slice_index};
 ghost use lib.IntN.{pos, ◌-ℤ◌};
 ghost use Rattle.heco_nums.specs.Arithmetic.{centre_q};
-ghost use Rattle.heco_wide.specs.Wide.{int_at};
+ghost use Rattle.heco_wide.specs.inside.Wide.{int_at};
 
 /// q / 2.
 const HALF: u64 = 1 << 57;

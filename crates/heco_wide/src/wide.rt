@@ -1,7 +1,7 @@
 ghost use Rattle.std.specs.Prelude.{◌≡◌, ◌*◌, ◌≤◌, ◌^◌, EachIndex, length};
 ghost use Rattle.std.specs.Int.RustNames.{unsigned_abs};
 ghost use lib.IntN.{pos, ◌+ℤ◌, ◌*ℤ◌};
-ghost use Rattle.heco_wide.specs.Wide.{int_at, FitsAll};
+ghost use Rattle.heco_wide.specs.inside.Wide.{int_at, FitsAll};
 
 /// What a limb counts against the one below it.
 const BASE: i128 = 1 << 19;

@@ -1,6 +1,6 @@
 -- Distinct terms that are exactly the subterms of written forms, and inputs, have their cost, late cost and needs.
 use Rattle.std.proofs.Common.{◌≡◌, ℕ, ◌+◌, List, [], ◌∷◌, refl, arith, length, ap, ◌∙◌, sym, inl, inr, Bool, true, false, cond, ◌||◌, ◌&&◌}
-use Rattle.std.specs.List.{list_any, sum_by, count_by}
+use Rattle.std.specs.List.{list_any, sum_by}
 use Rattle.std.proofs.lemmas.List.Recursion.{is_sum_by}
 use Rattle.heco_written.specs.VectorTerm.{VectorTerm, Input, same_vector}
 use Rattle.heco_written.specs.Cost.{is_input, all_subterms, parts, gates, cost, is_long, turns_or_multiplies, is_due, late_cost, late_gates}

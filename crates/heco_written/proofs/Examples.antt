@@ -7,7 +7,7 @@ use Rattle.heco_nums.specs.Arithmetic.{centre_t}
 use Rattle.heco_written.specs.ScalarTerm.{ScalarTerm, Number, Element, sum_of, product_of, negation_of}
 use Rattle.heco_written.specs.VectorTerm.{VectorTerm, Input, Multiplied}
 use Rattle.heco_written.specs.Fold.{power, fold_within, fold}
-use Rattle.heco_written.specs.WrittenForm.{Home, Known, At, written}
+use Rattle.heco_written.specs.WrittenForm.{WrittenHome, Known, At, written}
 use Rattle.heco_written.specs.Cost.{cost, late_cost}
 use Rattle.heco_written.specs.Needs.{needs_relinearisation, turn_amounts}
 use Rattle.heco_written.proofs.FoldTerms.{fold-power}
@@ -27,7 +27,7 @@ module _ (id : ℕ) where
   vectors [] = []
   vectors (x ∷ xs) = vector_of (written (modulus_of id) (slots_of id) x).home ++ vectors xs
     where
-      vector_of : Home → List VectorTerm
+      vector_of : WrittenHome → List VectorTerm
       vector_of (Known c) = []
       vector_of (At p) = p.vector ∷ []
 

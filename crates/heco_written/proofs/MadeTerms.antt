@@ -3,7 +3,7 @@ use Rattle.std.proofs.Math.Nat.{mod-lt}
 use Rattle.heco_written.specs.World.{World}
 use Rattle.heco_written.specs.Proper.{IsProper}
 use Rattle.heco_written.specs.ScalarTerm.{ScalarTerm, Number, Element, Sum, Product, Negation, is_number, sum_of, product_of, negation_of, IsMade, number, element, sum, product, negation, scalar_value}
-use Rattle.heco_written.specs.WrittenForm.{Place, Run, Home, Known, At, Written, is_known, run_of, runs, runs_from, longer, continues, places, constant, sum_at, product_home, negation_home, written, ElementsWithin, HomeWithin, home_value, AtPlace}
+use Rattle.heco_written.specs.WrittenForm.{Place, Run, WrittenHome, Known, At, Written, is_known, run_of, runs, runs_from, longer, continues, places, constant, sum_at, product_home, negation_home, written, ElementsWithin, IsWithinSlots, home_value, AtPlace}
 use Rattle.heco_written.proofs.WrittenLaw.{home_value-written, written-within}
 
 module _ (modulus slots : ℕ) (some : 0 < modulus) where
@@ -42,11 +42,11 @@ module _ (modulus slots : ℕ) (some : 0 < modulus) where
   proper-within (Negation x) h = proper-within x h.0
 
   -- some home is a place
-  abbrev has_place : List Home → Bool
+  abbrev has_place : List WrittenHome → Bool
   has_place [] = false
   has_place (h ∷ hs) = not (is_known h) || has_place hs
 
-  has_place-append : (hs : List Home) (k : Home) → has_place (hs ++ k ∷ []) ≡ (has_place hs || not (is_known k))
+  has_place-append : (hs : List WrittenHome) (k : WrittenHome) → has_place (hs ++ k ∷ []) ≡ (has_place hs || not (is_known k))
   has_place-append [] (Known c) = refl
   has_place-append [] (At p) = refl
   has_place-append (Known c ∷ hs) k = has_place-append hs k
@@ -61,22 +61,22 @@ module _ (modulus slots : ℕ) (some : 0 < modulus) where
       by true e = e
       by false e = refl
 
-  sum-at : (c : ℕ) (hs : List Home) → has_place hs ≡ true → is_known (sum_at slots c (runs slots (places hs))) ≡ false
+  sum-at : (c : ℕ) (hs : List WrittenHome) → has_place hs ≡ true → is_known (sum_at slots c (runs slots (places hs))) ≡ false
   sum-at c [] h = cc
   sum-at c (Known d ∷ hs) h = sum-at c hs h
   sum-at c (At p ∷ hs) h = runs_from-at c (run_of p) (places hs)
 
-  is_known-product : (g h : Home) → is_known (product_home modulus slots g h) ≡ (is_known g && is_known h)
+  is_known-product : (g h : WrittenHome) → is_known (product_home modulus slots g h) ≡ (is_known g && is_known h)
   is_known-product (Known c) (Known d) = refl
   is_known-product (Known c) (At q) = refl
   is_known-product (At p) (Known d) = refl
   is_known-product (At p) (At q) = refl
 
-  is_known-negation : (g : Home) → is_known (negation_home modulus slots g) ≡ is_known g
+  is_known-negation : (g : WrittenHome) → is_known (negation_home modulus slots g) ≡ is_known g
   is_known-negation (Known c) = refl
   is_known-negation (At p) = refl
 
-  one_place : (h : Home) → has_place (h ∷ []) ≡ not (is_known h)
+  one_place : (h : WrittenHome) → has_place (h ∷ []) ≡ not (is_known h)
   one_place (Known c) = refl
   one_place (At p) = refl
 
@@ -89,7 +89,7 @@ module _ (modulus slots : ℕ) (some : 0 < modulus) where
     home_known : is_known f.home ≡ is_number x
     members_placed : has_place f.members ≡ not (is_number x)
 
-  one_member : (x : ScalarTerm) (h : Home) → is_known h ≡ is_number x → Places x (record { home = h; members = h ∷ [] })
+  one_member : (x : ScalarTerm) (h : WrittenHome) → is_known h ≡ is_number x → Places x (record { home = h; members = h ∷ [] })
   one_member x h e = record { home_known = e; members_placed = one_place h ∙ ap not e }
 
   places_of : (x : ScalarTerm) → IsProper modulus slots x → Places x (written modulus slots x)
@@ -114,7 +114,7 @@ module _ (modulus slots : ℕ) (some : 0 < modulus) where
   pub is_known-written : (x : ScalarTerm) → IsProper modulus slots x → is_known (written modulus slots x).home ≡ is_number x
   is_known-written x h = (places_of x h).home_known
 
-at_place : (h : Home) → is_known h ≡ false → (p : Place) × (h ≡ At p)
+at_place : (h : WrittenHome) → is_known h ≡ false → (p : Place) × (h ≡ At p)
 at_place (Known c) e = cc
 at_place (At p) e = (p, refl)
 
@@ -126,6 +126,6 @@ written_law w x room some made e =
     let within : ElementsWithin w.slots x = proper-within w.modulus w.slots some x proper in
     by (written w.modulus w.slots x).home (is_known-written w.modulus w.slots some x proper ∙ e) (written-within w some room x within) (home_value-written w some room x within)
   where
-    by : (h : Home) → is_known h ≡ false → HomeWithin w.slots h → home_value w h ≡ scalar_value w x → AtPlace w x h
+    by : (h : WrittenHome) → is_known h ≡ false → IsWithinSlots w.slots h → home_value w h ≡ scalar_value w x → AtPlace w x h
     by (Known c) k within value = cc
     by (At p) k within value = (within, sym value)

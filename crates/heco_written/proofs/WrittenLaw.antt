@@ -4,33 +4,33 @@ use Rattle.std.proofs.lemmas.Nat.{mul-mod_first, mul-mod_second}
 use Rattle.heco_written.specs.World.{World}
 use Rattle.heco_written.specs.ScalarTerm.{ScalarTerm, Number, Element, Sum, Product, Negation, scalar_value}
 use Rattle.heco_written.specs.VectorTerm.{Input}
-use Rattle.heco_written.specs.WrittenForm.{Run, Home, Known, At, Written, runs, folded, added_to, places, constant, sum_at, sum_home, product_home, negation_home, written, home_value, ElementsWithin, HomeWithin}
+use Rattle.heco_written.specs.WrittenForm.{Run, WrittenHome, Known, At, Written, runs, folded, added_to, places, constant, sum_at, sum_home, product_home, negation_home, written, home_value, ElementsWithin, IsWithinSlots}
 use Rattle.heco_written.proofs.SlotValues.{scalar_value-lt}
 use Rattle.heco_written.proofs.RunSlots.{place_value, places_sum, run_value, runs_sum, PlacesWithin, RunsWithin, runs-within, runs_sum-runs, place_value-folded, places_sum-folded, places-within-folded, added_to-slot, place_value-added_to, place_value-shifted_by, shifted_by-slot, aligned_value}
 
-abbrev pub homes_sum : World → List Home → ℕ
+abbrev pub homes_sum : World → List WrittenHome → ℕ
 homes_sum w [] = 0
 homes_sum w (h ∷ hs) = home_value w h + homes_sum w hs
 
-abbrev pub HomesWithin : ℕ → List Home → Type 0
+abbrev pub HomesWithin : ℕ → List WrittenHome → Type 0
 HomesWithin n [] = Unit {0}
-HomesWithin n (h ∷ hs) = HomeWithin n h × HomesWithin n hs
+HomesWithin n (h ∷ hs) = IsWithinSlots n h × HomesWithin n hs
 
-places-within : (n : ℕ) (hs : List Home) → HomesWithin n hs → PlacesWithin n (places hs)
+places-within : (n : ℕ) (hs : List WrittenHome) → HomesWithin n hs → PlacesWithin n (places hs)
 places-within n [] h = tt
 places-within n (Known c ∷ hs) h = places-within n hs h.1
 places-within n (At p ∷ hs) h = (h.0, places-within n hs h.1)
 
-homes-within-append : (n : ℕ) (hs : List Home) (k : Home) → HomesWithin n hs → HomeWithin n k → HomesWithin n (hs ++ k ∷ [])
+homes-within-append : (n : ℕ) (hs : List WrittenHome) (k : WrittenHome) → HomesWithin n hs → IsWithinSlots n k → HomesWithin n (hs ++ k ∷ [])
 homes-within-append n [] k h a = (a, tt)
 homes-within-append n (x ∷ hs) k h a = (h.0, homes-within-append n hs k h.1 a)
 
-homes_sum-append : (w : World) (hs : List Home) (k : Home) → homes_sum w (hs ++ k ∷ []) ≡ homes_sum w hs + home_value w k
+homes_sum-append : (w : World) (hs : List WrittenHome) (k : WrittenHome) → homes_sum w (hs ++ k ∷ []) ≡ homes_sum w hs + home_value w k
 homes_sum-append w [] k = omega arith
 homes_sum-append w (x ∷ hs) k = omega (arith, homes_sum-append w hs k)
 
 -- homes hold the constant and what the places hold
-homes_sum-split : (w : World) (hs : List Home) → homes_sum w hs % w.modulus ≡ (constant hs + places_sum w (places hs)) % w.modulus
+homes_sum-split : (w : World) (hs : List WrittenHome) → homes_sum w hs % w.modulus ≡ (constant hs + places_sum w (places hs)) % w.modulus
 homes_sum-split w [] = refl
 homes_sum-split w (Known c ∷ hs) =
     mod-add-mod c w.modulus (homes_sum w hs)
@@ -60,19 +60,19 @@ module _ (w : World) (some : 0 < w.modulus) (room : 0 < w.slots) where
       ∙ mod-add-mod (run_value w r) w.modulus (c + runs_sum w rs)
       ∙ ap (λ s. s % w.modulus) (omega arith)
 
-  sum_at-within : (c : ℕ) (rs : List Run) → RunsWithin w.slots rs → HomeWithin w.slots (sum_at w.slots c rs)
+  sum_at-within : (c : ℕ) (rs : List Run) → RunsWithin w.slots rs → IsWithinSlots w.slots (sum_at w.slots c rs)
   sum_at-within c [] h = tt
   sum_at-within c (r ∷ rs) h =
       rw (shifted_by-slot w some room c (added_to w.slots (folded r) (map folded rs)), added_to-slot w some room (folded r) (map folded rs)) h.0.0
 
-  sum_home_value : (hs : List Home) → HomesWithin w.slots hs → home_value w (sum_home w.modulus w.slots hs) ≡ homes_sum w hs % w.modulus
+  sum_home_value : (hs : List WrittenHome) → HomesWithin w.slots hs → home_value w (sum_home w.modulus w.slots hs) ≡ homes_sum w hs % w.modulus
   sum_home_value hs h =
       sum_at_value (constant hs % w.modulus) (runs w.slots (places hs)) (runs-within w.slots (places hs) (places-within w.slots hs h))
       ∙ mod-add-mod (constant hs) w.modulus (runs_sum w (runs w.slots (places hs)))
       ∙ ap (λ s. (constant hs + s) % w.modulus) (runs_sum-runs w (places hs) (places-within w.slots hs h))
       ∙ sym (homes_sum-split w hs)
 
-  product_home_value : (g h : Home) → HomeWithin w.slots g → HomeWithin w.slots h
+  product_home_value : (g h : WrittenHome) → IsWithinSlots w.slots g → IsWithinSlots w.slots h
       → home_value w (product_home w.modulus w.slots g h) ≡ (home_value w g * home_value w h) % w.modulus
   product_home_value (Known c) (Known d) hg hh =
       mod-mod (c * d) w.modulus ∙ sym (mul-mod_second (c % w.modulus) d w.modulus ∙ mul-mod_first c d w.modulus)
@@ -81,28 +81,28 @@ module _ (w : World) (some : 0 < w.modulus) (room : 0 < w.slots) where
       ap (λ s. s % w.modulus) (omega arith) ∙ sym (mul-mod_second (place_value w p) d w.modulus)
   product_home_value (At p) (At q) hg hh = ap (λ s. (place_value w p * s) % w.modulus) (aligned_value w some room p q hg hh)
 
-  product_home-within : (g h : Home) → HomeWithin w.slots g → HomeWithin w.slots h → HomeWithin w.slots (product_home w.modulus w.slots g h)
+  product_home-within : (g h : WrittenHome) → IsWithinSlots w.slots g → IsWithinSlots w.slots h → IsWithinSlots w.slots (product_home w.modulus w.slots g h)
   product_home-within (Known c) (Known d) hg hh = tt
   product_home-within (Known c) (At p) hg hh = hh
   product_home-within (At p) (Known d) hg hh = hg
   product_home-within (At p) (At q) hg hh = hg
 
-  negation_home_value : (g : Home) → home_value w (negation_home w.modulus w.slots g) ≡ (w.modulus - home_value w g) % w.modulus
+  negation_home_value : (g : WrittenHome) → home_value w (negation_home w.modulus w.slots g) ≡ (w.modulus - home_value w g) % w.modulus
   negation_home_value (Known c) = mod-mod _ w.modulus
   negation_home_value (At p) = refl
 
-  negation_home-within : (g : Home) → HomeWithin w.slots g → HomeWithin w.slots (negation_home w.modulus w.slots g)
+  negation_home-within : (g : WrittenHome) → IsWithinSlots w.slots g → IsWithinSlots w.slots (negation_home w.modulus w.slots g)
   negation_home-within (Known c) h = tt
   negation_home-within (At p) h = h
 
   -- what is known of a written form
   record Holds (x : ScalarTerm) (f : Written) : Type 0 where
-    home_within : HomeWithin w.slots f.home
+    home_within : IsWithinSlots w.slots f.home
     members_within : HomesWithin w.slots f.members
     home_holds : home_value w f.home ≡ scalar_value w x
     members_hold : homes_sum w f.members % w.modulus ≡ scalar_value w x
 
-  one_member : (x : ScalarTerm) (h : Home) → HomeWithin w.slots h → home_value w h ≡ scalar_value w x → Holds x (record { home = h; members = h ∷ [] })
+  one_member : (x : ScalarTerm) (h : WrittenHome) → IsWithinSlots w.slots h → home_value w h ≡ scalar_value w x → Holds x (record { home = h; members = h ∷ [] })
   one_member x h a e = record {
     home_within = a;
     members_within = (a, tt);
@@ -144,5 +144,5 @@ module _ (w : World) (some : 0 < w.modulus) (room : 0 < w.slots) where
   pub home_value-written : (x : ScalarTerm) → ElementsWithin w.slots x → home_value w (written w.modulus w.slots x).home ≡ scalar_value w x
   home_value-written x h = (holds x h).home_holds
 
-  pub written-within : (x : ScalarTerm) → ElementsWithin w.slots x → HomeWithin w.slots (written w.modulus w.slots x).home
+  pub written-within : (x : ScalarTerm) → ElementsWithin w.slots x → IsWithinSlots w.slots (written w.modulus w.slots x).home
   written-within x h = (holds x h).home_within

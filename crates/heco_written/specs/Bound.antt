@@ -1,7 +1,7 @@
 -- The written noise bound of a vector term.
 use Rattle.std.specs.Prelude.{ℕ, List, [], ◌∷◌, Option, max, map}
 use Rattle.std.specs.List.{find}
-use Rattle.heco_nums.specs.Presets.{degree_of, modulus_of, weight_of, error_of}
+use Rattle.heco_nums.specs.Presets.{degree_of, modulus_of, hamming_weight_of, error_of}
 use Rattle.heco_noise.specs.Rows as rows
 use Rattle.heco_written.specs.VectorTerm.{VectorTerm, Input, Negated, Added, Multiplied, Scaled, Shifted, Turned}
 use Rattle.heco_written.specs.Cost.{subterms, all_subterms}
@@ -14,7 +14,7 @@ pub record Scheme : Type 0 where
   pub error : ℕ
 
 abbrev pub scheme_of : ℕ → Scheme
-scheme_of id = record { degree = degree_of id; modulus = modulus_of id; weight = weight_of id; error = error_of id }
+scheme_of id = record { degree = degree_of id; modulus = modulus_of id; weight = hamming_weight_of id; error = error_of id }
 
 -- what a turn or a relinearisation makes of a bound
 abbrev pub switched : Scheme → ℕ → ℕ

@@ -1,5 +1,5 @@
 -- What made terms look like: sums, products and negations are not of numbers alone.
-use Rattle.std.specs.Prelude.{◌≡◌, ℕ, zero, suc, ◌<◌, Bool, true, false, ◌&&◌, ◌||◌}
+use Rattle.std.specs.Prelude.{◌≡◌, ℕ, zero, ◌<◌, Bool, true, false, ◌&&◌, ◌||◌}
 use Rattle.heco_written.specs.ScalarTerm.{ScalarTerm, Number, Element, Sum, Product, Negation, is_number}
 
 abbrev pub is_zero : ScalarTerm → Bool

@@ -12,9 +12,9 @@ pub record Place : Type 0 where
   pub slot : ℕ
 
 -- where a scalar's value is: known, or at a place
-pub data Home : Type 0 where
-  Known : ℕ → Home
-  At : Place → Home
+pub data WrittenHome : Type 0 where
+  Known : ℕ → WrittenHome
+  At : Place → WrittenHome
 
 -- consecutive slots of a vector
 pub record Run : Type 0 where
@@ -59,17 +59,17 @@ shifted_by zero p = p
 shifted_by (suc c) p = record { vector = Shifted (suc c) p.vector; slot = p.slot }
 
 -- the places among homes, in order
-abbrev pub places : List Home → List Place
+abbrev pub places : List WrittenHome → List Place
 places [] = []
 places (Known c ∷ hs) = places hs
 places (At p ∷ hs) = p ∷ places hs
 
 -- the vectors of the places among homes, in order: the written forms
-abbrev pub vectors_of : List Home → List VectorTerm
+abbrev pub vectors_of : List WrittenHome → List VectorTerm
 vectors_of homes = map (λ p. p.vector) (places homes)
 
 -- the sum of what is known
-abbrev pub constant : List Home → ℕ
+abbrev pub constant : List WrittenHome → ℕ
 constant [] = 0
 constant (Known c ∷ hs) = c + constant hs
 constant (At p ∷ hs) = constant hs
@@ -79,7 +79,7 @@ runs slots [] = []
 runs slots (p ∷ ps) = runs_from slots (run_of p) ps
 
 -- a constant and the sum of runs
-abbrev pub sum_at : ℕ → ℕ → List Run → Home
+abbrev pub sum_at : ℕ → ℕ → List Run → WrittenHome
 sum_at slots c [] = Known c
 sum_at slots c (r ∷ rs) = At (shifted_by c (added_to slots (folded r) (map folded rs)))
 
@@ -92,33 +92,33 @@ abbrev pub beside : ℕ → Option Place → Place → Place
 beside slots None q = q
 beside slots (Some p) q = record { vector = Added p.vector (aligned slots p q); slot = p.slot }
 
-abbrev pub with_constant : ℕ → Option Place → Home
+abbrev pub with_constant : ℕ → Option Place → WrittenHome
 with_constant c None = Known c
 with_constant c (Some p) = At (shifted_by c p)
 
 -- the home of a sum, from those of its members
-abbrev pub sum_home : ℕ → ℕ → List Home → Home
+abbrev pub sum_home : ℕ → ℕ → List WrittenHome → WrittenHome
 sum_home modulus slots hs = sum_at slots (constant hs % modulus) (runs slots (places hs))
 
-abbrev pub product_home : ℕ → ℕ → Home → Home → Home
+abbrev pub product_home : ℕ → ℕ → WrittenHome → WrittenHome → WrittenHome
 product_home modulus slots (Known c) (Known d) = Known ((c * d) % modulus)
 product_home modulus slots (Known c) (At p) = At (record { vector = Scaled c p.vector; slot = p.slot })
 product_home modulus slots (At p) (Known c) = At (record { vector = Scaled c p.vector; slot = p.slot })
 product_home modulus slots (At p) (At q) = At (record { vector = Multiplied p.vector (aligned slots p q); slot = p.slot })
 
-abbrev pub negation_home : ℕ → ℕ → Home → Home
+abbrev pub negation_home : ℕ → ℕ → WrittenHome → WrittenHome
 negation_home modulus slots (Known c) = Known ((modulus - c % modulus) % modulus)
 negation_home modulus slots (At p) = At (record { vector = Negated p.vector; slot = p.slot })
 
 -- a term's home, and the homes of its members: a sum's are those of its left part and then its right part
 pub record Written : Type 0 where
-  pub home : Home
-  pub members : List Home
+  pub home : WrittenHome
+  pub members : List WrittenHome
 
-abbrev pub alone : Home → Written
+abbrev pub alone : WrittenHome → Written
 alone h = record { home = h; members = h ∷ [] }
 
-abbrev pub summed : ℕ → ℕ → List Home → Written
+abbrev pub summed : ℕ → ℕ → List WrittenHome → Written
 summed modulus slots hs = record { home = sum_home modulus slots hs; members = hs }
 
 -- the written form of a scalar term
@@ -130,14 +130,14 @@ written modulus slots (Product x y) = alone (product_home modulus slots (written
 written modulus slots (Negation x) = alone (negation_home modulus slots (written modulus slots x).home)
 
 -- what a home holds under given inputs
-abbrev pub home_value : World → Home → ℕ
+abbrev pub home_value : World → WrittenHome → ℕ
 home_value w (Known c) = c % w.modulus
 home_value w (At p) = slot_value w p.vector p.slot
 
 -- a place's slot is one of the slots
-abbrev pub HomeWithin : ℕ → Home → Type 0
-HomeWithin slots (Known c) = Unit {0}
-HomeWithin slots (At p) = p.slot < slots
+abbrev pub IsWithinSlots : ℕ → WrittenHome → Type 0
+IsWithinSlots slots (Known c) = Unit {0}
+IsWithinSlots slots (At p) = p.slot < slots
 
 -- each element is within the slots
 abbrev pub ElementsWithin : ℕ → ScalarTerm → Type 0
@@ -147,11 +147,11 @@ ElementsWithin slots (Sum x y) = ElementsWithin slots x × ElementsWithin slots 
 ElementsWithin slots (Product x y) = ElementsWithin slots x × ElementsWithin slots y
 ElementsWithin slots (Negation x) = ElementsWithin slots x
 
-abbrev pub is_known : Home → Bool
+abbrev pub is_known : WrittenHome → Bool
 is_known (Known c) = true
 is_known (At p) = false
 
 -- the home is a place that holds the term's value
-abbrev pub AtPlace : World → ScalarTerm → Home → Type 0
+abbrev pub AtPlace : World → ScalarTerm → WrittenHome → Type 0
 AtPlace w x (Known c) = ⊥
 AtPlace w x (At p) = (p.slot < w.slots) × (scalar_value w x ≡ slot_value w p.vector p.slot)

@@ -1,4 +1,4 @@
-use Rattle.std.proofs.Common.{◌≡◌, List, ℕ, length, arith, sym, ap, ◌∙◌}
+use Rattle.std.proofs.Common.{◌≡◌, length, arith, ap, ◌∙◌}
 use lib.ListN.{drop}
 use Rattle.heco_nums.specs.declared.preset.Preset.{Preset}
 use Rattle.heco_poly.proofs.Written.{front}

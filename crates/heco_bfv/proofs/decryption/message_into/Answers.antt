@@ -1,4 +1,4 @@
-use Rattle.std.proofs.Common.{◌≡◌, ℕ, List, length, ap, ◌∙◌}
+use Rattle.std.proofs.Common.{ℕ, List, length, ap, ◌∙◌}
 use Rattle.heco_nums.specs.declared.preset.Preset.{Preset}
 use Rattle.heco_bfv.proofs.PhaseSteps.{decrypted_made}
 use Rattle.heco_bfv.proofs.decryption.message_into.Goals as goal

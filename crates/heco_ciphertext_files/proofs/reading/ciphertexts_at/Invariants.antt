@@ -1,6 +1,6 @@
 use Rattle.std.proofs.Common.{◌≡◌, ◌-◌}
 use Rattle.heco_fields.specs.Formats.{many}
-use Rattle.heco_fields.specs.Runs.{stays}
+use Rattle.heco_nums.specs.Runs.{stays}
 use Rattle.heco_fields.specs.Readings.{reading, with_front}
 use Rattle.heco_ciphertext_files.specs.CiphertextFiles.{ciphertext}
 use Rattle.heco_ciphertext_files.proofs.reading.ciphertexts_at.Given as goal

@@ -1,7 +1,7 @@
 use Rattle.std.proofs.Common.{◌≡◌, ◌+◌, length, All}
 use Rattle.std.specs.Prelude.{IsTrue}
 use Rattle.std.specs.List.{list_all}
-use Rattle.heco_fields.specs.Runs.{along}
+use Rattle.heco_nums.specs.Runs.{along}
 use Rattle.heco_noise.specs.Rows.{IsQuiet}
 use Rattle.heco_circuit.specs.Bounds.{fresh_bounds, with_bound, wire_bounds, first_passing, is_below}
 use Rattle.heco_circuit.proofs.quiet.noise_under.Given as goal

@@ -3,7 +3,7 @@ use Rattle.std.proofs.Common.{ap, ◌∙◌, sym, ◌≡◌, ◌++◌, ◌∷◌
 use Rattle.std.proofs.lemmas.Result.{err_from_is_err_and}
 use Rattle.heco_fields.specs.Formats.{many}
 use Rattle.heco_fields.specs.Readings.{reading}
-use Rattle.heco_fields.specs.Runs.{along}
+use Rattle.heco_nums.specs.Runs.{along}
 use Rattle.heco_fields.proofs.Loops.{goes_on, fails, is_done, along_push}
 use Rattle.heco_circuit.specs.Validity.{with_gate, parts_of}
 use Rattle.heco_circuit.specs.GateFormat.{gate}

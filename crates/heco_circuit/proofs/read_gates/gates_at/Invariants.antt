@@ -1,7 +1,7 @@
 use Rattle.std.proofs.Common.{◌≡◌, ◌-◌}
 use Rattle.heco_fields.specs.Formats.{many}
 use Rattle.heco_fields.specs.Readings.{reading, with_front}
-use Rattle.heco_fields.specs.Runs.{along}
+use Rattle.heco_nums.specs.Runs.{along}
 use Rattle.heco_circuit.specs.Validity.{with_gate}
 use Rattle.heco_circuit.specs.GateFormat.{gate}
 use Rattle.heco_circuit.proofs.read_gates.gates_at.Given as goal

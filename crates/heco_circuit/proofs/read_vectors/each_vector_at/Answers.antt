@@ -3,7 +3,7 @@ use Rattle.std.proofs.Common.{ap, ◌∙◌, ◌∷◌, [], arith, length, lengt
 use Rattle.std.proofs.lemmas.Result.{err_from_is_err_and}
 use Rattle.heco_fields.specs.Formats.{many}
 use Rattle.heco_fields.specs.Readings.{reading}
-use Rattle.heco_fields.specs.Runs.{stays}
+use Rattle.heco_nums.specs.Runs.{stays}
 use Rattle.heco_fields.proofs.Loops.{goes_on, fails, is_done}
 use Rattle.heco_circuit.specs.VectorFormat.{vector}
 use Rattle.heco_circuit.proofs.read_vectors.each_vector_at.Goals as goal

@@ -1,7 +1,7 @@
 use Rattle.std.proofs.Common.{◌≡◌, ◌-◌, length}
 use Rattle.heco_fields.specs.Formats.{many}
 use Rattle.heco_fields.specs.Readings.{reading, with_front}
-use Rattle.heco_fields.specs.Runs.{stays}
+use Rattle.heco_nums.specs.Runs.{stays}
 use Rattle.heco_circuit.specs.VectorFormat.{vector}
 use Rattle.heco_circuit.proofs.read_vectors.each_vector_at.Given as goal
 

@@ -1,7 +1,7 @@
 use Rattle.std.proofs.Common.{◌≡◌, ◌-◌}
 use Rattle.heco_fields.specs.Formats.{many}
 use Rattle.heco_fields.specs.Readings.{reading, with_front}
-use Rattle.heco_fields.specs.Runs.{stays}
+use Rattle.heco_nums.specs.Runs.{stays}
 use Rattle.heco_circuit.specs.VectorFormat.{entry}
 use Rattle.heco_circuit.proofs.read_vectors.vector_at.Given as goal
 

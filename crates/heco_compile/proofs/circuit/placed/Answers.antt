@@ -19,7 +19,7 @@ use Rattle.heco_compile.proofs.circuit.placed.Goals as goal
 
 pub place-requires-clause-ports : goal.place-requires-clause-ports
 place-requires-clause-ports c =
-    rw (c.preset-preset.ensures.slots, c.as_slice-inputs.ensures, c.inputs.ensures.value, c.as_slice-outputs.ensures, c.outputs.ensures.value) (typed_ports c.args.t.now c.source.ensures.typed)
+    rw (c.preset-preset.ensures.slots, c.as_slice-inputs.ensures, c.inputs.ensures.value, c.as_slice-outputs.ensures, c.outputs.ensures.value) (typed_ports c.args.t.now c.source-valid.ensures.typed)
 
 pub place-requires-clause-fit : goal.place-requires-clause-fit
 place-requires-clause-fit c =
@@ -69,7 +69,7 @@ returns-clause-good c =
     let v = c.requires in
     let used = c.in_ok-used.used in
     let over = homes_written s c.args.vectors.now.0 c.args.vectors.now.1 c.args.homes.now v used.0 used.1 c.in_ok-used.ensures.terms in
-    placed_is_good s c.in_ok-circuit.circuit v.terms v.are c.preset.ensures.valid
+    placed_is_good s c.in_ok-circuit.circuit v.terms v.are c.preset-valid.ensures.valid
     (rw (id_is c.preset-preset.result.now s.params.text c.preset-preset.ensures.name, c.as_slice-inputs.ensures, c.inputs.ensures.value, c.as_slice-outputs.ensures, c.outputs.ensures.value, over) at c.in_ok-circuit.ensures.placed)
 
 pub returns-clause-unweighed : goal.returns-clause-unweighed
@@ -86,5 +86,5 @@ returns-clause-few c =
     let used = c.in_ok-used.used in
     let over = homes_written s c.args.vectors.now.0 c.args.vectors.now.1 c.args.homes.now v used.0 used.1 c.in_ok-used.ensures.terms in
     few_gates s c.args.vectors.now.0 c.args.vectors.now.1 c.args.homes.now v used.0 used.1 c.in_ok-used.ensures.terms c.in_ok-used.ensures.gates
-    (c.nodes_have_the_cost.ensures used.0 used.1 c.len.ensures.earlier c.len.ensures.inside (c.in_ok-used.ensures.once v.once) c.in_ok-used.ensures.used)
+    (c.nodes_have_the_cost.ensures used.0 used.1 c.len-valid.ensures.earlier c.len-valid.ensures.inside (c.in_ok-used.ensures.once v.once) c.in_ok-used.ensures.used)
     (c.nodes_have_the_gates_of_their_terms.ensures used.0) c.in_ok-circuit.circuit (rw over at c.in_ok-circuit.ensures.placed.thrift)

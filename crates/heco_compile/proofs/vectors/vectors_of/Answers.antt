@@ -20,7 +20,7 @@ returns-clause-vectors c =
     let t : c.preset-preset.result.now.t ≡ modulus s = modulus_is c.preset-preset.result.now s.params.text c.preset-preset.ensures.name in
     let n : c.preset-preset.result.now.slots ≡ slots s = c.preset-preset.ensures.slots in
     let b = c.in_ok-batched.ensures in
-    are_vectors s c.source.ensures.typed c.in_ok-ir.ir.0 c.in_ok-ir.ir.1 c.in_ok-batched.batched.0.0 c.in_ok-batched.batched.0.1 c.in_ok-batched.batched.1
+    are_vectors s c.source-valid.ensures.typed c.in_ok-ir.ir.0 c.in_ok-ir.ir.1 c.in_ok-batched.batched.0.0 c.in_ok-batched.batched.0.1 c.in_ok-batched.batched.1
     c.in_ok-ir.ensures.terms c.in_ok-ir.ensures.inputs c.in_ok-ir.ensures.operations
     (record {
       homes_are = rw (t, n) at b.homes;

@@ -1,6 +1,6 @@
 use Rattle.std.proofs.Common.{arith}
 use Rattle.heco_ir.specs.Vectors.{vector_operands}
-use Rattle.heco_cse.proofs.Marking.{marking_start, marking_next, marking_end}
+use Rattle.heco_cse.proofs.Marking.{marking_start, marking_end}
 use Rattle.heco_cse.proofs.dead.mark_operands.Goals as goal
 
 pub loop-k-init : goal.loop-k-init

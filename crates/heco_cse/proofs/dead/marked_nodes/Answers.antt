@@ -1,9 +1,9 @@
-use Rattle.std.proofs.Common.{◌≡◌, ◌∷◌, [], ◌++◌, length, arith, false, ◌∙◌, ap}
+use Rattle.std.proofs.Common.{◌∷◌, [], ◌++◌, arith, false, ◌∙◌, ap}
 use Rattle.std.proofs.lemmas.Option.{slice_get-get_or}
 use Rattle.heco_ir.specs.declared.vector.VNode.TheVariants.{Input}
 use Rattle.heco_cse.specs.Dead.{over_ids}
 use Rattle.heco_cse.proofs.Marking.{marked_at, unmarked_at}
-use Rattle.heco_cse.proofs.Copying.{copies_start, operands_at, copy_below, copies_next, copies_skip}
+use Rattle.heco_cse.proofs.Copying.{operands_at, copy_below, copies_next, copies_skip}
 use Rattle.heco_cse.proofs.dead.marked_nodes.Goals.{then-marks-i+in_ok-id, else-marks-i}
 use Rattle.heco_cse.proofs.dead.marked_nodes.Goals as goal
 

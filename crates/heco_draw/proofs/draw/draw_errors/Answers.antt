@@ -1,13 +1,14 @@
-use Rattle.std.proofs.Common.{◌≡◌, ℕ, ◌+◌, ◌*◌, ◌<◌, ◌≤◌, ◌++◌, ◌∷◌, [], arith, rules, ap, ◌∙◌, sym, length, subst}
+use Rattle.std.proofs.Common.{◌≡◌, ℕ, ◌+◌, ◌*◌, ◌≤◌, ◌++◌, ◌∷◌, [], arith, rules, ap, ◌∙◌, length}
 use Rattle.std.specs.Prelude.{ℤ}
 use Rattle.std.specs.Int.RustNames.{unsigned_abs}
 use mir.Val.{SFits}
 use mir.Syntax.{w8}
 use Rattle.std.proofs.lemmas.Int.{to_z-of_z}
 use Rattle.rand_chacha.specs.ChaCha.{ChaCha}
-use Rattle.heco_scheme.specs.Bounds.{AreErrors}
-use Rattle.heco_draw.specs.Words.{ahead, word, listed, error, errors}
-use Rattle.heco_draw.proofs.Drawn.{Drawing, drawing_starts, drawing_goes_on, word_there, length-listed}
+use Rattle.heco_draw.specs.Words.{word, error, errors}
+use Rattle.heco_nums.specs.Listed.{listed}
+use Rattle.heco_draw.proofs.Drawn.{drawing_starts, drawing_goes_on, word_there}
+use Rattle.heco_nums.proofs.ListedLaws.{length-listed}
 use Rattle.heco_draw.proofs.draw.draw_errors.Goals as goal
 
 abbrev item : ℕ → ChaCha → ℕ → ℤ

@@ -1,8 +1,8 @@
-use Rattle.std.proofs.Common.{◌≡◌, ℕ, ◌+◌, ◌*◌, ◌%◌, ◌<◌, ◌≤◌, arith, ap, ◌∙◌, sym, refl}
-use Rattle.rand_chacha.specs.ChaCha.{ChaCha}
+use Rattle.std.proofs.Common.{◌≡◌, ℕ, ◌+◌, ◌*◌, ◌%◌, ◌<◌, arith, ap, ◌∙◌, refl}
 use Rattle.heco_nums.proofs.PresetFacts.{facts}
-use Rattle.heco_draw.specs.Words.{ahead, word, listed, start, values}
-use Rattle.heco_draw.proofs.Drawn.{Drawing, drawing_starts, drawing_goes_on, word_there, place_is}
+use Rattle.heco_draw.specs.Words.{word, start, values}
+use Rattle.heco_nums.specs.Listed.{listed}
+use Rattle.heco_draw.proofs.Drawn.{drawing_starts, drawing_goes_on, word_there, place_is}
 use Rattle.heco_draw.proofs.draw.draw_values.Goals as goal
 
 abbrev item : ℕ → ℕ → ℕ → ℕ

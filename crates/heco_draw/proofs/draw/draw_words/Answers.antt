@@ -1,8 +1,9 @@
-use Rattle.std.proofs.Common.{◌≡◌, ℕ, ◌+◌, ◌*◌, ◌<◌, ◌≤◌, ◌^◌, arith, ap, ◌∙◌, sym, length, subst}
+use Rattle.std.proofs.Common.{◌≡◌, ℕ, ◌+◌, ◌*◌, ◌<◌, ◌^◌, arith, ap, ◌∙◌, length}
 use Rattle.rand_chacha.specs.ChaCha.{ChaCha}
-use Rattle.heco_scheme.specs.Bounds.{AreWords}
-use Rattle.heco_draw.specs.Words.{ahead, word, listed, long_word, long_words}
-use Rattle.heco_draw.proofs.Drawn.{Drawing, drawing_starts, drawing_goes_on, word_there, length-listed}
+use Rattle.heco_draw.specs.Words.{word, long_word, long_words}
+use Rattle.heco_nums.specs.Listed.{listed}
+use Rattle.heco_draw.proofs.Drawn.{drawing_starts, drawing_goes_on, word_there}
+use Rattle.heco_nums.proofs.ListedLaws.{length-listed}
 use Rattle.heco_draw.proofs.draw.draw_words.Goals as goal
 
 abbrev item : ChaCha → ℕ → ℕ

@@ -1,4 +1,4 @@
-use Rattle.std.proofs.Common.{ℕ, ◌+◌, ◌*◌, ◌<◌, ◌^◌}
+use Rattle.std.proofs.Common.{◌+◌, ◌*◌, ◌<◌, ◌^◌}
 use Rattle.heco_draw.specs.Words.{word, long_word}
 use Rattle.heco_draw.proofs.Drawn.{Drawing}
 use Rattle.heco_draw.proofs.draw.draw_words.Given as goal

@@ -1,5 +1,5 @@
-use Rattle.std.proofs.Common.{◌≡◌, arith, ap, ◌∙◌}
-use Rattle.heco_draw.specs.Words.{word, long_word}
+use Rattle.std.proofs.Common.{◌≡◌, arith, ◌∙◌}
+use Rattle.heco_draw.specs.Words.{word}
 use Rattle.heco_draw.proofs.Drawn.{word_there}
 use Rattle.heco_draw.proofs.draw.long_word.Goals as goal
 

@@ -1,7 +1,5 @@
-use Rattle.std.proofs.Common.{◌≡◌, ℕ, arith, ap, ◌∙◌, refl, length}
-use Rattle.std.specs.List.{fold}
-use Rattle.heco_draw.specs.Words.{ahead, word, listed, placed}
-use Rattle.heco_draw.proofs.Placed.{Placing, placing_starts, placing_goes_on}
+use Rattle.std.proofs.Common.{refl, length}
+use Rattle.heco_draw.proofs.Placed.{placing_starts, placing_goes_on}
 use Rattle.heco_draw.proofs.secret.place_all.Goals as goal
 
 pub loop-i-init : goal.loop-i-init

@@ -7,7 +7,7 @@ use Rattle.heco_nums.specs.declared.preset.Preset.{Preset}
 use Rattle.heco_products.specs.Decrypting.{output_wire_count, outputs_text}
 use Rattle.heco_products.specs.Encrypting.{messages_file}
 use Rattle.heco_products.specs.KeyProducts.{evaluation_file}
-use Rattle.heco_products.specs.PresetRows.{preset_of}
+use Rattle.heco_nums.specs.PresetRows.{preset_of}
 use Rattle.heco_run_laws.specs.Messages.{input_message}
 use Rattle.heco_tasks.proofs.MadeFileLaws.{made_keys_serve}
 use Rattle.heco_tasks.specs.Running.{HasKeys}

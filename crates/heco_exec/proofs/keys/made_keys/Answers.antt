@@ -8,7 +8,7 @@ pub make-requires-clause-material : goal.make-requires-clause-material
 make-requires-clause-material c = material_of c.args.circuit.now c.args.k.now c.requires
 
 pub make-requires-clause-amounts : goal.make-requires-clause-amounts
-make-requires-clause-amounts c = amounts_of c.args.circuit.now c.args.k.now c.preset.ensures.valid c.requires
+make-requires-clause-amounts c = amounts_of c.args.circuit.now c.args.k.now c.preset-valid.ensures.valid c.requires
 
 pub returns-clause-secret : goal.returns-clause-secret
 returns-clause-secret c = (c.in_ok-keys.ensures.secret.0 ∙ c.requires.preset, c.in_ok-keys.ensures.secret.1)

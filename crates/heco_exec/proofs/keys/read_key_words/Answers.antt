@@ -19,15 +19,15 @@ returns-in_err-needs-clause-read g c = λ s good.
 pub returns-in_err-k-clause-read : goal.returns-in_err-k-clause-read
 returns-in_err-k-clause-read g c = λ s good.
     let p = err_from_is_err_and c.from_residual-in_err-k.result c.from_residual-in_err-k.ensures.1 in
-    rw (p.1, p.2) (keys_judged g.S.Store (texts c.args.words.now) s c.args.circuit.now good c.preset_of.result.now c.args.store.now c.read_material.new.store c.args.which c.in_ok-needs.needs (Err c.in_err-k.field-0.0)
-    c.preset_of.ensures.whole c.in_ok-needs.ensures.relin c.in_ok-needs.ensures.turns c.in_err-k.ensures.read)
+    rw (p.1, p.2) (keys_judged g.S.Store (texts c.args.words.now) s c.args.circuit.now good c.preset.result.now c.args.store.now c.read_material.new.store c.args.which c.in_ok-needs.needs (Err c.in_err-k.field-0.0)
+    c.preset.ensures.whole c.in_ok-needs.ensures.relin c.in_ok-needs.ensures.turns c.in_err-k.ensures.read)
 
 pub returns-clause-kept : goal.returns-clause-kept
 returns-clause-kept g c =
     let kept = c.in_ok-k.ensures.kept in
-    keys_for_circuit c.args.circuit.now c.preset_of.result.now c.in_ok-k.k kept.0 c.preset_of.ensures.whole (kept.1 ∙ c.in_ok-needs.ensures.relin) (kept.2 ∙ c.in_ok-needs.ensures.turns) c.in_ok-k.ensures.within
+    keys_for_circuit c.args.circuit.now c.preset.result.now c.in_ok-k.k kept.0 c.preset.ensures.whole (kept.1 ∙ c.in_ok-needs.ensures.relin) (kept.2 ∙ c.in_ok-needs.ensures.turns) c.in_ok-k.ensures.within
 
 pub returns-clause-read : goal.returns-clause-read
 returns-clause-read g c = λ s good.
-    keys_judged g.S.Store (texts c.args.words.now) s c.args.circuit.now good c.preset_of.result.now c.args.store.now c.read_material.new.store c.args.which c.in_ok-needs.needs (Ok (lists_of c.in_ok-k.k))
-    c.preset_of.ensures.whole c.in_ok-needs.ensures.relin c.in_ok-needs.ensures.turns c.in_ok-k.ensures.read
+    keys_judged g.S.Store (texts c.args.words.now) s c.args.circuit.now good c.preset.result.now c.args.store.now c.read_material.new.store c.args.which c.in_ok-needs.needs (Ok (lists_of c.in_ok-k.k))
+    c.preset.ensures.whole c.in_ok-needs.ensures.relin c.in_ok-needs.ensures.turns c.in_ok-k.ensures.read

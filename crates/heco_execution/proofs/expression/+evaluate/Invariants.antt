@@ -1,6 +1,6 @@
 use Rattle.std.proofs.Common.{◌≡◌, ◌+◌, ◌*◌, map, drop, []}
 use Rattle.heco_execution.specs.Evaluation.{along, evaluate, sum_part, product_part, in_turn, calls_of}
-use Rattle.heco_execution.specs.Room.{room}
+use Rattle.heco_execution.proofs.Room.{room}
 use Rattle.heco_syntax.specs.declared.tree.Expr.{size-Expr}
 use Rattle.heco_execution.proofs.expression.+evaluate.Given as goal
 

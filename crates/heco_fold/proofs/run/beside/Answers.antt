@@ -6,10 +6,10 @@ use Rattle.heco_fold.proofs.run.beside.Goals as goal
 
 pub returns-clause-term : goal.returns-clause-term
 returns-clause-term c =
-    let e : Added (vector_at (vector_terms c.put.new.self) c.args.v) (vector_at (vector_terms c.put.new.self) c.in-Ok.id)
+    let e : Added (vector_at (vector_terms c.put.new.self) c.args.v) (vector_at (vector_terms c.put.new.self) c.in_ok-turned.turned)
     ≡ Added (vector_at (vector_terms c.args.c.now) c.args.v) (Turned c.args.r (vector_at (vector_terms c.args.c.now) c.args.w)) =
-    ap (λ x. Added x (vector_at (vector_terms c.put.new.self) c.in-Ok.id)) (term_stands c.args.v.0 c.in-Ok.ensures.stands c.requires.left)
-    ∙ ap (Added (vector_at (vector_terms c.args.c.now) c.args.v)) c.in-Ok.ensures.term.is in
+    ap (λ x. Added x (vector_at (vector_terms c.put.new.self) c.in_ok-turned.turned)) (term_stands c.args.v.0 c.in_ok-turned.ensures.stands c.requires.left)
+    ∙ ap (Added (vector_at (vector_terms c.args.c.now) c.args.v)) c.in_ok-turned.ensures.term.is in
     rw e at c.put-2.ensures.term
 
 pub returns-clause-fits : goal.returns-clause-fits

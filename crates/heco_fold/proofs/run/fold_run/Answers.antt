@@ -1,7 +1,5 @@
-use Rattle.std.proofs.Common.{◌≡◌, ℕ, ◌+◌, ◌^◌, ◌%◌, nat_eq, length, arith, sym, ap, refl}
-use Rattle.heco_ir.proofs.Extended.{extends_length, extends_more, extends_weaken}
-use Rattle.heco_ir.specs.Terms.{vector_at, vector_terms}
-use Rattle.heco_written.specs.Fold.{fold}
+use Rattle.std.proofs.Common.{◌≡◌, ◌+◌, ◌^◌, ◌%◌, nat_eq, arith, refl}
+use Rattle.heco_ir.proofs.Extended.{extends_length, extends_more}
 use Rattle.heco_fold.proofs.Folding.{folding_start, folding_length, folding_turn, folding_next, folding_end, folding_stands, folding_room, folding_low}
 use Rattle.heco_fold.proofs.run.fold_run.Goals as goal
 
@@ -11,22 +9,22 @@ loop-rest-init c = record { folding = folding_start c.args.c.now c.args.v c.args
 pub low_bit-requires-clause-room : goal.low_bit-requires-clause-room
 low_bit-requires-clause-room c = omega (arith, (folding_length c.loop-rest.invariant.folding c.requires.most).1)
 
-pub returns-in-Err-clause-stands : goal.returns-in-Err-clause-stands
-returns-in-Err-clause-stands c = folding_turn c.loop-rest.invariant.folding c.loop-rest-test.true c.requires.most (omega arith) c.low_bit.ensures.stands
+pub returns-in_err-low-clause-stands : goal.returns-in_err-low-clause-stands
+returns-in_err-low-clause-stands c = folding_turn c.loop-rest.invariant.folding c.loop-rest-test.true c.requires.most (omega arith) c.low_bit.ensures.stands
 
 pub beside-requires-clause-room : goal.beside-requires-clause-room
 beside-requires-clause-room c =
     omega (arith, (folding_length c.loop-rest.invariant.folding c.requires.most).1, (extends_length c.low_bit.ensures.stands).1)
 
-pub returns-in-Err-beside-clause-stands : goal.returns-in-Err-beside-clause-stands
-returns-in-Err-beside-clause-stands c =
+pub returns-in_err-power-clause-stands : goal.returns-in_err-power-clause-stands
+returns-in_err-power-clause-stands c =
     folding_turn c.loop-rest.invariant.folding c.loop-rest-test.true c.requires.most (omega arith) (extends_more c.low_bit.ensures.stands c.beside.ensures.stands)
 
 pub loop-rest-preserved : goal.loop-rest-preserved
 loop-rest-preserved c = record {
   folding =
-      folding_next c.loop-rest.invariant.folding c.low_bit.new.c c.beside.new.c c.in-Ok.new c.in-Ok-beside.id (nat_eq (c.loop-rest.rest % 2) 1)
-      c.loop-rest-test.true refl c.in-Ok.ensures.fold c.low_bit.ensures.stands c.low_bit.ensures.alone c.in-Ok-beside.ensures.term c.beside.ensures.stands;
+      folding_next c.loop-rest.invariant.folding c.low_bit.new.c c.beside.new.c c.in_ok-low.low c.in_ok-power.power (nat_eq (c.loop-rest.rest % 2) 1)
+      c.loop-rest-test.true refl c.in_ok-low.ensures.fold c.low_bit.ensures.stands c.low_bit.ensures.alone c.in_ok-power.ensures.term c.beside.ensures.stands;
   fits = λ slots modulus es le h.
       let (some, most) = folding_room c.loop-rest.invariant.folding c.loop-rest-test.true in
       c.beside.ensures.fits slots modulus es some (omega arith)
@@ -35,13 +33,13 @@ loop-rest-preserved c = record {
 }
 
 -- what was turned already fits where the call fails
-pub returns-in-Err-clause-fits : goal.returns-in-Err-clause-fits
-returns-in-Err-clause-fits c = λ slots modulus es le h.
+pub returns-in_err-low-clause-fits : goal.returns-in_err-low-clause-fits
+returns-in_err-low-clause-fits c = λ slots modulus es le h.
     c.low_bit.ensures.fits _ _ _ slots modulus es c.loop-rest.invariant.folding.power_is c.loop-rest.invariant.folding.low_is
     (omega (arith, folding_low c.loop-rest.invariant.folding)) (c.loop-rest.invariant.fits slots modulus es le h)
 
-pub returns-in-Err-beside-clause-fits : goal.returns-in-Err-beside-clause-fits
-returns-in-Err-beside-clause-fits c = λ slots modulus es le h.
+pub returns-in_err-power-clause-fits : goal.returns-in_err-power-clause-fits
+returns-in_err-power-clause-fits c = λ slots modulus es le h.
     let (some, most) = folding_room c.loop-rest.invariant.folding c.loop-rest-test.true in
     c.beside.ensures.fits slots modulus es some (omega arith)
     (c.low_bit.ensures.fits _ _ _ slots modulus es c.loop-rest.invariant.folding.power_is c.loop-rest.invariant.folding.low_is

@@ -13,4 +13,4 @@ pub loop-i-preserved : goal.loop-i-preserved
 loop-i-preserved g c =
     Passing-next c.loop-i.invariant c.len-i-end.ensures.earlier c.node.ensures
     (rw c.deref.ensures.value at c.rename-n.ensures.operands) c.rename-n.ensures.value
-    c.in-Ok.ensures.stands c.in-Ok.ensures.within c.in-Ok.ensures.means c.in-Ok-push.ensures.items
+    c.in_ok-id.ensures.stands c.in_ok-id.ensures.within c.in_ok-id.ensures.means c.in_ok-push.ensures.items

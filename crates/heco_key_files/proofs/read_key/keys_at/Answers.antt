@@ -3,11 +3,11 @@ use Rattle.std.specs.Prelude.{All}
 use Rattle.std.specs.List.{flat_map}
 use Rattle.std.proofs.lemmas.Result.{IfOk-weaker}
 use Rattle.heco_fields.specs.Formats.{many}
-use Rattle.heco_fields.specs.Runs.{stays}
+use Rattle.heco_nums.specs.Runs.{stays}
 use Rattle.heco_fields.proofs.Laws.{IsBytes}
 use Rattle.heco_keys.proofs.MadeRows.{seen_rows}
 use Rattle.heco_scheme.specs.Keys.{AreRows}
-use Rattle.heco_key_files.specs.KeyFiles.{switch_key, switch_text, IsSwitchKey}
+use Rattle.heco_key_files.specs.KeyFiles.{switch_key, switch_text}
 use Rattle.heco_key_files.proofs.EvalLaws.{AreSwitches, switches_law, switches_rows}
 use Rattle.heco_key_files.proofs.Headers.{read_has}
 use Rattle.heco_key_files.proofs.read_key.keys_at.Goals as goal

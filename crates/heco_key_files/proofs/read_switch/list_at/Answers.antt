@@ -1,6 +1,6 @@
 use Rattle.std.proofs.Common.{arith}
 use Rattle.heco_fields.proofs.Laws.{IsBytes}
-use Rattle.heco_scheme.specs.Bounds.{AreWords}
+use Rattle.heco_nums.specs.MaterialBounds.{AreWords}
 use Rattle.heco_lists.specs.ListFormat.{words, words_text}
 use Rattle.heco_lists.proofs.ListLaws.{words_law}
 use Rattle.heco_key_files.proofs.Headers.{read_has}

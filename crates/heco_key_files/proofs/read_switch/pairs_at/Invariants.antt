@@ -1,6 +1,6 @@
 use Rattle.std.proofs.Common.{◌≡◌, ◌-◌, length}
 use Rattle.heco_fields.specs.Formats.{many}
-use Rattle.heco_fields.specs.Runs.{stays}
+use Rattle.heco_nums.specs.Runs.{stays}
 use Rattle.heco_fields.specs.Readings.{reading, with_front}
 use Rattle.heco_key_files.specs.KeyFiles.{pair as pair_format}
 use Rattle.heco_key_files.proofs.read_switch.pairs_at.Given as goal

@@ -2,7 +2,7 @@ use Rattle.std.proofs.Common.{ap, ◌∙◌, ◌+◌, [], ◌∷◌, length, map
 use Rattle.std.proofs.lemmas.List.{length-append, map-append}
 use Rattle.std.proofs.lemmas.Result.{err_from_is_err_and}
 use Rattle.heco_fields.specs.Formats.{many}
-use Rattle.heco_fields.specs.Runs.{stays}
+use Rattle.heco_nums.specs.Runs.{stays}
 use Rattle.heco_fields.specs.Readings.{reading}
 use Rattle.heco_fields.proofs.Loops.{goes_on, fails, is_done}
 use Rattle.heco_key_files.specs.KeyFiles.{switch_key}

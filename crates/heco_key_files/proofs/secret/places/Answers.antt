@@ -1,7 +1,7 @@
 use Rattle.std.proofs.Common.{arith}
 use Rattle.std.specs.Prelude.{codes}
 use Rattle.heco_fields.proofs.Laws.{IsBytes}
-use Rattle.heco_scheme.specs.Bounds.{IsSparse}
+use Rattle.heco_nums.specs.MaterialBounds.{IsSparse}
 use Rattle.heco_lists.specs.ListFormat.{sparse, bytes_text}
 use Rattle.heco_lists.proofs.ListLaws.{sparse_law}
 use Rattle.heco_key_files.proofs.Judged.{fitting}

@@ -3,14 +3,15 @@ use Rattle.std.specs.Prelude.{ℤ}
 use lib.ListN.{get_or}
 use Rattle.std.proofs.lemmas.Option.{get_or_from_slice_get}
 use Rattle.std.proofs.lemmas.Result.{IfOk-weaker}
-use Rattle.heco_draw.specs.Words.{listed}
-use Rattle.heco_draw.proofs.Drawn.{listed_none, length-listed}
+use Rattle.heco_nums.specs.Listed.{listed}
+use Rattle.heco_nums.proofs.ListedLaws.{listed_none, length-listed}
 use Rattle.heco_material.specs.declared.words.SwitchRow.{SwitchRow}
-use Rattle.heco_material.specs.KeyLists.{IsRow}
+use Rattle.heco_material.specs.KeyLists.{IsSwitchRow}
 use Rattle.heco_keys.specs.declared.switch_key.SwitchKey.{SwitchKey}
 use Rattle.heco_keys.specs.Made.{source_of, pair_of, no_row, switch_rows}
 use Rattle.heco_keys.proofs.KeySteps.{source_begins, source_next}
-use Rattle.heco_keys.proofs.ReadItems.{read_is, pair_is, listed_push}
+use Rattle.heco_keys.proofs.ReadItems.{read_is, pair_is}
+use Rattle.heco_nums.proofs.ListedLaws.{listed_push}
 use Rattle.heco_keys.proofs.make_switch.make_switch.Goals as goal
 
 abbrev item : ℕ → List ℤ → List ℤ → List SwitchRow → ℕ → List ℕ × List ℕ
@@ -22,7 +23,7 @@ get-requires c = omega (arith, c.requires.words.count)
 pub pair-requires-clause-row : goal.pair-requires-clause-row
 pair-requires-clause-row c =
     let p = c.args.p.now in
-    read_is (IsRow p.n p.b) c.args.words.now.rows c.loop-i.i c.get.result.now c.requires.words.rows c.get.ensures
+    read_is (IsSwitchRow p.n p.b) c.args.words.now.rows c.loop-i.i c.get.result.now c.requires.words.rows c.get.ensures
 
 pub loop-i-init : goal.loop-i-init
 loop-i-init c =

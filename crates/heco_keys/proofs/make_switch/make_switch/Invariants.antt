@@ -1,9 +1,9 @@
-use Rattle.std.proofs.Common.{◌≡◌, ◌^◌, ℕ, length}
+use Rattle.std.proofs.Common.{◌≡◌, ◌^◌, length}
 use lib.IntN.{pos}
 use lib.ListN.{get_or}
 use Rattle.heco_ring.specs.Ring.{scale}
 use Rattle.heco_ring.specs.Remainders.{reduced}
-use Rattle.heco_draw.specs.Words.{listed}
+use Rattle.heco_nums.specs.Listed.{listed}
 use Rattle.heco_keys.specs.Made.{source_of, pair_of, no_row}
 use Rattle.heco_keys.proofs.make_switch.make_switch.Given as goal
 

@@ -1,4 +1,4 @@
-use Rattle.std.proofs.Common.{◌≡◌, ℕ, length, arith, sym, ap, ◌∙◌}
+use Rattle.std.proofs.Common.{◌≡◌, length, ap, ◌∙◌}
 use Rattle.heco_scheme.specs.Keys.{switch_part}
 use Rattle.heco_keys.proofs.KeySteps.{switched_is}
 use Rattle.heco_keys.proofs.make_switch.pair.Goals as goal

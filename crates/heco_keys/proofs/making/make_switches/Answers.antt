@@ -3,14 +3,15 @@ use Rattle.std.specs.Prelude.{ℤ}
 use lib.ListN.{get_or}
 use Rattle.std.proofs.lemmas.List.{length-append}
 use Rattle.std.proofs.lemmas.Option.{get_or_from_slice_get}
-use Rattle.heco_draw.specs.Words.{listed}
-use Rattle.heco_draw.proofs.Drawn.{listed_none}
+use Rattle.heco_nums.specs.Listed.{listed}
+use Rattle.heco_nums.proofs.ListedLaws.{listed_none}
 use Rattle.heco_nums.specs.declared.needs.KeyNeeds.{KeyNeeds}
 use Rattle.heco_material.specs.declared.words.SwitchWords.{SwitchWords}
 use Rattle.heco_material.specs.KeyLists.{IsSwitch}
 use Rattle.heco_keys.specs.declared.switch_key.SwitchKey.{SwitchKey}
 use Rattle.heco_keys.specs.Made.{purpose, source_of, switch_rows, no_rows, all_rows}
-use Rattle.heco_keys.proofs.ReadItems.{read_is, listed_push_seen}
+use Rattle.heco_keys.proofs.ReadItems.{read_is}
+use Rattle.heco_nums.proofs.ListedLaws.{listed_push_seen}
 use Rattle.heco_keys.proofs.making.make_switches.Goals as goal
 
 abbrev item : ℕ → List ℤ → KeyNeeds → List SwitchWords → ℕ → List (List ℕ × List ℕ)

@@ -1,6 +1,6 @@
-use Rattle.std.proofs.Common.{◌≡◌, ℕ, map, length}
+use Rattle.std.proofs.Common.{◌≡◌, map, length}
 use lib.ListN.{get_or}
-use Rattle.heco_draw.specs.Words.{listed}
+use Rattle.heco_nums.specs.Listed.{listed}
 use Rattle.heco_keys.specs.declared.switch_key.SwitchKey.{SwitchKey}
 use Rattle.heco_keys.specs.Made.{purpose, source_of, switch_rows, no_rows}
 use Rattle.heco_keys.proofs.making.make_switches.Given as goal

@@ -1,4 +1,4 @@
-use Rattle.std.proofs.Common.{◌≡◌, ◌^◌, ℕ, length, arith, sym, ap, ◌∙◌}
+use Rattle.std.proofs.Common.{◌≡◌, length, arith}
 use Rattle.heco_keys.proofs.KeySteps.{masked_is}
 use Rattle.heco_keys.proofs.masked.mask.Goals as goal
 

@@ -7,7 +7,7 @@ use Rattle.std.proofs.lemmas.Result.{err_from_is_err_and}
 use Rattle.heco_fields.specs.Formats.{many}
 use Rattle.heco_fields.specs.Readings.{reading}
 use Rattle.heco_fields.proofs.Loops.{goes_on, fails, is_done}
-use Rattle.heco_lists.specs.ListFormat.{place as place_format, counted, sparse}
+use Rattle.heco_lists.specs.ListFormat.{secret_place as place_format, counted, sparse}
 use Rattle.heco_lists.proofs.reading.sparse_at.Goals as goal
 
 pub returns-in_err-place : goal.returns-in_err-place

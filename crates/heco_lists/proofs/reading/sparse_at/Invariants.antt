@@ -1,7 +1,7 @@
 use Rattle.std.proofs.Common.{◌≡◌, ◌-◌, ◌≤◌}
 use Rattle.heco_fields.specs.Formats.{many}
 use Rattle.heco_fields.specs.Readings.{reading, with_front}
-use Rattle.heco_lists.specs.ListFormat.{place as place_format, counted}
+use Rattle.heco_lists.specs.ListFormat.{secret_place as place_format, counted}
 use Rattle.heco_lists.proofs.reading.sparse_at.Given as goal
 
 abbrev pub invariant-loop : goal.invariant-loop

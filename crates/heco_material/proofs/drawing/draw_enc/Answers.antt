@@ -2,8 +2,10 @@ use Rattle.std.proofs.Common.{◌≡◌, ℕ, ◌+◌, ◌*◌, arith, ap, ◌�
 use Rattle.rand_chacha.specs.ChaCha.{ChaCha}
 use Rattle.heco_nums.specs.declared.preset.Preset.{Preset}
 use Rattle.heco_nums.proofs.PresetFacts.{facts}
-use Rattle.heco_draw.specs.Words.{ahead, listed, start}
-use Rattle.heco_draw.proofs.Drawn.{drawing_starts, drawing_goes_on, place_is, length-listed}
+use Rattle.heco_draw.specs.Words.{ahead, start}
+use Rattle.heco_nums.specs.Listed.{listed}
+use Rattle.heco_draw.proofs.Drawn.{drawing_starts, drawing_goes_on, place_is}
+use Rattle.heco_nums.proofs.ListedLaws.{length-listed}
 use Rattle.heco_material.specs.declared.words.EncRow.{EncRow}
 use Rattle.heco_material.specs.KeyLists.{IsEncRow}
 use Rattle.heco_material.specs.Drawn.{drawn_encryption, drawn_encryptions}

@@ -1,8 +1,10 @@
 use Rattle.std.proofs.Common.{◌≡◌, ℕ, ◌*◌, arith, ap, ◌∙◌, length}
 use Rattle.rand_chacha.specs.ChaCha.{ChaCha}
 use Rattle.heco_nums.specs.declared.preset.Preset.{Preset}
-use Rattle.heco_draw.specs.Words.{ahead, listed}
-use Rattle.heco_draw.proofs.Drawn.{drawing_starts, drawing_goes_on, place_is, length-listed}
+use Rattle.heco_draw.specs.Words.{ahead}
+use Rattle.heco_nums.specs.Listed.{listed}
+use Rattle.heco_draw.proofs.Drawn.{drawing_starts, drawing_goes_on, place_is}
+use Rattle.heco_nums.proofs.ListedLaws.{length-listed}
 use Rattle.heco_material.specs.declared.words.SwitchWords.{SwitchWords}
 use Rattle.heco_material.specs.KeyLists.{IsSwitch}
 use Rattle.heco_material.specs.Drawn.{drawn_switch, drawn_switches}

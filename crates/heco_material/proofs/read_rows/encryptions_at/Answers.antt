@@ -1,6 +1,6 @@
 use Rattle.std.proofs.lemmas.Result.{err_from_is_err_and}
 use Rattle.heco_fields.specs.Formats.{many}
-use Rattle.heco_fields.specs.Runs.{stays}
+use Rattle.heco_nums.specs.Runs.{stays}
 use Rattle.heco_fields.specs.Readings.{reading}
 use Rattle.heco_fields.proofs.Loops.{goes_on, fails, is_done}
 use Rattle.heco_material.specs.EncFormat.{encryption, encryptions}

@@ -1,6 +1,6 @@
 use Rattle.std.proofs.Common.{◌≡◌, ◌-◌}
 use Rattle.heco_fields.specs.Formats.{many}
-use Rattle.heco_fields.specs.Runs.{stays}
+use Rattle.heco_nums.specs.Runs.{stays}
 use Rattle.heco_fields.specs.Readings.{reading, with_front}
 use Rattle.heco_material.specs.KeyFormat.{row}
 use Rattle.heco_material.proofs.read_rows.rows_at.Given as goal

@@ -1,4 +1,4 @@
-use Rattle.std.proofs.Common.{◌≡◌, ◌++◌, ◌+◌, ◌-◌, ◌*◌, length, map}
+use Rattle.std.proofs.Common.{◌≡◌, ◌++◌, ◌+◌, ◌-◌, length, map}
 use Rattle.heco_meaning.specs.Meanings.{cell_value}
 use Rattle.heco_meaning.proofs.cells.row_of.Given as goal
 

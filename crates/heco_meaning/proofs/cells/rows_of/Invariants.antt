@@ -1,4 +1,4 @@
-use Rattle.std.proofs.Common.{◌≡◌, ◌++◌, ◌+◌, ◌-◌, ◌*◌, length, map}
+use Rattle.std.proofs.Common.{◌≡◌, ◌++◌, ◌+◌, ◌-◌, length, map}
 use Rattle.heco_meaning.specs.Meanings.{output_values}
 use Rattle.heco_meaning.proofs.cells.rows_of.Given as goal
 

@@ -1,4 +1,4 @@
-use Rattle.std.proofs.Common.{◌≡◌, ◌++◌, ◌+◌, ◌-◌, ◌*◌, length, map}
+use Rattle.std.proofs.Common.{◌≡◌, ◌++◌, ◌+◌, ◌-◌, length, map}
 use Rattle.std.specs.Prelude.{◌%◌}
 use Rattle.heco_meaning.proofs.slots.shifted.Given as goal
 

@@ -1,4 +1,4 @@
-use Rattle.std.proofs.Common.{◌≡◌, ◌++◌, ◌+◌, ◌-◌, ◌*◌, length, map}
+use Rattle.std.proofs.Common.{◌≡◌, ◌++◌, ◌+◌, ◌-◌, length}
 use Rattle.heco_meaning.specs.Meanings.{sums}
 use Rattle.heco_meaning.proofs.slots.sums.Given as goal
 

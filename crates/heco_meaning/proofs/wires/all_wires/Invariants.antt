@@ -1,5 +1,5 @@
-use Rattle.std.proofs.Common.{◌≡◌, ◌++◌, ◌+◌, ◌-◌, ◌*◌, length, map}
-use Rattle.heco_fields.specs.Runs.{along}
+use Rattle.std.proofs.Common.{◌≡◌, ◌-◌, length}
+use Rattle.heco_nums.specs.Runs.{along}
 use Rattle.heco_meaning.specs.Meanings.{with_wire}
 use Rattle.heco_meaning.proofs.wires.all_wires.Given as goal
 

@@ -1,4 +1,4 @@
-use Rattle.std.proofs.Common.{◌≡◌, ◌++◌, ◌+◌, ◌-◌, ◌*◌, length, map}
+use Rattle.std.proofs.Common.{◌≡◌, ◌++◌, ◌+◌, ◌-◌, length, map}
 use Rattle.heco_meaning.specs.Meanings.{filled}
 use Rattle.heco_meaning.proofs.wires.first_wires.Given as goal
 

@@ -6,7 +6,7 @@ use Rattle.heco_run.proofs.Starting.{opens, serves_all}
 use Rattle.heco_run_laws.specs.Measured.{measured_messages}
 use Rattle.heco_run_laws.specs.Runs.{run_of}
 use Rattle.heco_measure.specs.Measuring.{measured_of}
-use Rattle.heco_measure.specs.Stores.{AreEntries, ciphertext_in}
+use Rattle.heco_measure.specs.inside.Stores.{AreEntries, ciphertext_in}
 use Rattle.heco_measure.proofs.Storing.{length-run, are_entries, ciphertext_is, all_measured}
 use Rattle.heco_measure.proofs.measuring.measure.Goals as goal
 

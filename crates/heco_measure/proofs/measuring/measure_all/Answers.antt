@@ -3,7 +3,7 @@ use Rattle.std.proofs.lemmas.List.{get_or_default}
 use Rattle.std.proofs.lemmas.List.FromFn.{map-range_with_len_more}
 use Rattle.heco_scheme.specs.Noise.{noise}
 use Rattle.heco_measure.specs.Measuring.{measured_of}
-use Rattle.heco_measure.specs.Stores.{ciphertext_in}
+use Rattle.heco_measure.specs.inside.Stores.{ciphertext_in}
 use Rattle.heco_measure.specs.declared.measuring.Measured.{Measured}
 use Rattle.heco_measure.proofs.measuring.measure_all.Goals as goal
 

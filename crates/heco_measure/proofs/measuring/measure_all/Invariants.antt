@@ -1,7 +1,7 @@
 use Rattle.std.proofs.Common.{◌≡◌, map}
 use Rattle.std.specs.List.{range_with_len}
 use Rattle.heco_measure.specs.Measuring.{measured_of}
-use Rattle.heco_measure.specs.Stores.{ciphertext_in}
+use Rattle.heco_measure.specs.inside.Stores.{ciphertext_in}
 use Rattle.heco_measure.proofs.measuring.measure_all.Given as goal
 
 abbrev pub invariant-loop-wire : goal.invariant-loop-wire

@@ -1,13 +1,13 @@
 use Rattle.std.proofs.Common.{◌≡◌, ◌∙◌, length, get_or, sym, ap, ap₂, arith}
 use Rattle.std.proofs.lemmas.List.{drop_all, length-map, length_push}
 use Rattle.std.proofs.lemmas.List.Elements.{All-map, All-push}
-use Rattle.heco_fields.specs.Runs.{along}
+use Rattle.heco_nums.specs.Runs.{along}
 use Rattle.heco_circuit.specs.declared.gate.Gate.TheVariants.{Neg}
 use Rattle.heco_run_laws.proofs.CircuitVectors.{circuit_formed}
 use Rattle.heco_run_laws.specs.Measured.{measured_messages}
 use Rattle.heco_run_laws.specs.Messages.{message_by, messages_along, with_message}
 use Rattle.heco_scheme.specs.Encryption.{decrypted}
-use Rattle.heco_measure.specs.Plaintexts.{IsPlaintext}
+use Rattle.heco_measure.specs.inside.Plaintexts.{IsPlaintext}
 use Rattle.heco_measure.proofs.Messages.{along_more}
 use Rattle.heco_measure.proofs.Plaintexts.{decrypted_plain, message_plain, next_behind}
 use Rattle.heco_measure.proofs.wire_messages.wire_messages.Goals as goal

@@ -1,9 +1,9 @@
 use Rattle.std.proofs.Common.{◌≡◌, ◌+◌, length, drop}
 use Rattle.std.specs.Prelude.{All}
-use Rattle.heco_fields.specs.Runs.{along}
+use Rattle.heco_nums.specs.Runs.{along}
 use Rattle.heco_run_laws.specs.Measured.{measured_messages}
 use Rattle.heco_run_laws.specs.Messages.{with_message}
-use Rattle.heco_measure.specs.Plaintexts.{IsPlaintext}
+use Rattle.heco_measure.specs.inside.Plaintexts.{IsPlaintext}
 use Rattle.heco_measure.proofs.wire_messages.wire_messages.Given as goal
 
 -- the messages so far, with those of the gates that are left, are all

@@ -7,7 +7,7 @@ use Rattle.heco_run.proofs.Gathering.{some_is}
 use Rattle.heco_run.proofs.Starting.{opens, serves_all}
 use Rattle.heco_run.proofs.VectorWeighers.{weighers_long}
 use Rattle.heco_run_laws.specs.Runs.{run_of}
-use Rattle.heco_measure.specs.Stores.{HasFirst}
+use Rattle.heco_measure.specs.inside.Stores.{HasFirst}
 use Rattle.heco_measure.proofs.Plaintexts.{gate_there}
 use Rattle.heco_measure.proofs.Storing.{first_wires, operands_found, vector, takes, parts, next_wires}
 use Rattle.heco_measure.proofs.wires.kept_run.Goals as goal

@@ -1,7 +1,7 @@
 use Rattle.std.proofs.Common.{◌≡◌, ◌+◌, length}
 use Rattle.heco_run.specs.Making.{keys_of}
 use Rattle.heco_run_laws.specs.Runs.{run_of}
-use Rattle.heco_measure.specs.Stores.{HasFirst}
+use Rattle.heco_measure.specs.inside.Stores.{HasFirst}
 use Rattle.heco_measure.proofs.wires.kept_run.Given as goal
 
 abbrev pub invariant-loop-gate : goal.invariant-loop-gate

@@ -9,7 +9,7 @@ use Rattle.heco_nums.specs.declared.preset.Preset.{Preset}
 use Rattle.heco_products.specs.Decrypting.{output_wire_count, row_text}
 use Rattle.heco_products.specs.Encrypting.{messages_file}
 use Rattle.heco_products.specs.KeyProducts.{evaluation_file}
-use Rattle.heco_products.specs.PresetRows.{preset_of}
+use Rattle.heco_nums.specs.PresetRows.{preset_of}
 use Rattle.heco_run_laws.specs.Carried.{two_row_messages}
 use Rattle.heco_slots.specs.Rows.{first_row, second_row}
 use Rattle.heco_tasks.proofs.MadeFileLaws.{made_keys_serve}

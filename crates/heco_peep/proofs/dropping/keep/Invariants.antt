@@ -1,7 +1,7 @@
 use Rattle.std.proofs.Common.{◌≡◌, ◌+◌, ◌≤◌, length}
-use Rattle.heco_fields.specs.Runs.{along}
+use Rattle.heco_nums.specs.Runs.{along}
 use Rattle.heco_rewrites.specs.Needed.{kept}
-use Rattle.heco_peep.specs.Dropped.{kept_so_far, is_marked, sieve}
+use Rattle.heco_peep.specs.inside.Dropped.{kept_so_far, is_marked, sieve}
 use Rattle.heco_peep.proofs.dropping.keep.Given as goal
 
 abbrev pub invariant-loop-rest : goal.invariant-loop-rest

@@ -1,6 +1,6 @@
 use Rattle.std.proofs.Common.{◌∙◌, arith}
 use Rattle.heco_circuit.specs.declared.gate.Gate.TheVariants.{Neg}
-use Rattle.heco_peep.specs.Dropped.{is_marked}
+use Rattle.heco_peep.specs.inside.Dropped.{is_marked}
 use Rattle.heco_peep.proofs.Marks.{step_marked, step_unmarked}
 use Rattle.heco_peep.proofs.marking.mark_needed.Goals as goal
 

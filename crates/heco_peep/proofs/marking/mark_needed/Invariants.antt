@@ -1,7 +1,7 @@
 use Rattle.std.proofs.Common.{◌≡◌, ℕ, ◌+◌, ◌<◌, ◌≤◌, length, drop, false}
 use Rattle.std.specs.Prelude.{slice_index_or}
 use Rattle.heco_rewrites.specs.Needed.{needed}
-use Rattle.heco_peep.specs.Dropped.{is_marked}
+use Rattle.heco_peep.specs.inside.Dropped.{is_marked}
 use Rattle.heco_peep.proofs.marking.mark_needed.Given as goal
 
 abbrev pub invariant-loop-i : goal.invariant-loop-i

@@ -1,7 +1,7 @@
 use Rattle.std.proofs.Common.{◌≡◌, ◌++◌, map, take, drop, length}
 use Rattle.std.specs.List.{sum_by, flat_map}
 use Rattle.heco_circuit.specs.Plans.{shape_of}
-use Rattle.heco_place.specs.Cells.{cell_over, cells_of}
+use Rattle.heco_place.specs.inside.Cells.{cell_over, cells_of}
 use Rattle.heco_place.specs.Fitting.{AllHomesWithin}
 use Rattle.heco_place.proofs.outputs.outputs_of.Given as goal
 

@@ -5,7 +5,7 @@ use Rattle.heco_ir.specs.Values.{numbers}
 use Rattle.heco_ir.specs.Terms.{terms_at}
 use Rattle.heco_ir.proofs.Means.{length-numbers}
 use Rattle.std.specs.List.{flat_map}
-use Rattle.heco_place.specs.Cells.{cell_over, cells_of}
+use Rattle.heco_place.specs.inside.Cells.{cell_over, cells_of}
 use Rattle.heco_place.specs.Fitting.{AllFit}
 use Rattle.heco_place.proofs.HomesWithin.{narrow, homes_within}
 use Rattle.heco_place.proofs.ValidPlan.{few_elements}

@@ -4,7 +4,7 @@ use Rattle.std.specs.Option.{option_map}
 use Rattle.std.proofs.lemmas.List.FromFn.{map-range_with_len_more}
 use Rattle.heco_plainvec.specs.Gathering.{vector, multiples, asked}
 use Rattle.heco_plainvec.specs.Gathered.{first_wire}
-use Rattle.heco_plainvec.specs.Finding.{IsAsk, product_at, numbered_product}
+use Rattle.heco_plainvec.specs.inside.Finding.{IsAsk, product_at, numbered_product}
 use Rattle.heco_plainvec.proofs.Rows.{length-each, each_at}
 use Rattle.heco_plainvec.proofs.AskedAll.{asked_are}
 use Rattle.heco_plainvec.proofs.Whole.{valid}
@@ -28,23 +28,23 @@ found-requires-clause-asks c =
     let la : c.loop-a.a < length k.inputs + length k.gates = omega (arith, ap length c.requires.bounds ∙ length-bounds k, c.loop-a-test.true) in
     let e : c.as_slice-asked.result.now ≡ asked k c.loop-a.a = c.as_slice-asked.ensures ∙ c.index-asks-a.is ∙ ap (λ xs. get_or xs c.loop-a.a c.index-asks-a.result) c.requires.asks ∙ each_at (asked k) k c.loop-a.a c.index-asks-a.result la in
     subst (λ id. All (IsAsk id) c.as_slice-asked.result.now) (sym c.requires.table)
-    (subst (λ xs. All (IsAsk k.preset) xs) (sym e) (asked_are k c.loop-a.a (valid k c.preset-preset.ensures.valid)))
+    (subst (λ xs. All (IsAsk k.preset) xs) (sym e) (asked_are k c.loop-a.a (valid k c.preset-valid.ensures.valid)))
 
 pub found-requires-clause-quiet : goal.found-requires-clause-quiet
 found-requires-clause-quiet c =
     let k = c.args.c.now in
-    rw (c.requires.bounds) (c.valid_circuits_are_quiet.ensures k c.preset-preset.ensures.valid c.loop-a.a 0 (omega (arith, ap length c.requires.bounds, c.loop-a-test.true)))
+    rw (c.requires.bounds) (c.valid_circuits_are_quiet.ensures k c.preset-valid.ensures.valid c.loop-a.a 0 (omega (arith, ap length c.requires.bounds, c.loop-a-test.true)))
 
 pub put_vector-requires : goal.put_vector-requires
 put_vector-requires c =
     let k = c.args.c.now in
-    omega (arith, ap length c.loop-a.invariant.vectors ∙ length-vectors k c.loop-a.a, few_chosen k c.loop-a.a (few_vectors k c.preset-preset.ensures.valid))
+    omega (arith, ap length c.loop-a.invariant.vectors ∙ length-vectors k c.loop-a.a, few_chosen k c.loop-a.a (few_vectors k c.preset-valid.ensures.valid))
 
 pub loop-a-preserved : goal.loop-a-preserved
 loop-a-preserved c =
     let k = c.args.c.now in
     let a = c.loop-a.a in
-    let few = few_vectors k c.preset-preset.ensures.valid in
+    let few = few_vectors k c.preset-valid.ensures.valid in
     let la : a < length k.inputs + length k.gates = omega (arith, ap length c.requires.bounds ∙ length-bounds k, c.loop-a-test.true) in
     let n : length c.loop-a.vectors ≡ length k.vectors + length (chosen_below k a) = ap length c.loop-a.invariant.vectors ∙ length-vectors k a in
     let ms : c.as_slice-group.result.now ≡ multiples k a = c.as_slice-group.ensures ∙ c.index-groups-a.is ∙ ap (λ xs. get_or xs a c.index-groups-a.result) c.requires.groups ∙ each_at (multiples k) k a c.index-groups-a.result la in

@@ -1,7 +1,7 @@
 use Rattle.std.proofs.Common.{◌≡◌, ◌++◌, map}
 use Rattle.std.specs.List.{range_with_len}
 use Rattle.heco_plainvec.specs.Gathering.{vector}
-use Rattle.heco_plainvec.specs.Finding.{product_at}
+use Rattle.heco_plainvec.specs.inside.Finding.{product_at}
 use Rattle.heco_plainvec.proofs.ChosenAt.{chosen_below}
 use Rattle.heco_plainvec.proofs.choosing.choices_beside.Given as goal
 

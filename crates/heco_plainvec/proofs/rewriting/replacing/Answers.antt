@@ -2,7 +2,7 @@ use Rattle.std.proofs.Common.{◌≡◌, ap, sym, ◌∙◌, arith}
 use Rattle.std.specs.Prelude.{Some, None}
 use Rattle.std.specs.Option.{option_map}
 use Rattle.heco_plainvec.specs.Gathering.{is_read, cell_only}
-use Rattle.heco_plainvec.specs.Finding.{scaled_where, product_at, replacing_by, replacing_where}
+use Rattle.heco_plainvec.specs.inside.Finding.{scaled_where, product_at, replacing_by, replacing_where}
 use Rattle.heco_plainvec.proofs.Rows.{length-each, made_below}
 use Rattle.heco_plainvec.proofs.Whole.{valid, earlier}
 use Rattle.heco_plainvec.proofs.OneImage.{scaled_read, scaled_earlier, product_read}
@@ -19,7 +19,7 @@ returns-in-Some-product_of c =
     let s = c.in-Some.s in
     let l = made_below k c.args.wire c.args.gate c.requires.here in
     let e : scaled_where (cell_only k c.args.wire) c.args.gate ≡ Some s = sym (c.in-Some.ensures ∙ scaled_read k c.args.reads.now c.args.wire c.args.gate c.requires.reads l) in
-    let b = scaled_earlier k c.args.wire c.args.gate s (earlier k (valid k c.preset-preset.ensures.valid)) c.requires.here e in
+    let b = scaled_earlier k c.args.wire c.args.gate s (earlier k (valid k c.preset-valid.ensures.valid)) c.requires.here e in
     let p : product_at k s.of ≡ Some c.in-Some-product_of.product = sym (c.in-Some-product_of.ensures ∙ product_read k c.args.products.now s.of c.requires.products (omega (arith, b, l))) in
     sym (ap (replacing_where k) e ∙ ap (option_map (replacing_by s.of)) p)
 
@@ -29,7 +29,7 @@ returns-in-None-product_of c =
     let s = c.in-Some.s in
     let l = made_below k c.args.wire c.args.gate c.requires.here in
     let e : scaled_where (cell_only k c.args.wire) c.args.gate ≡ Some s = sym (c.in-Some.ensures ∙ scaled_read k c.args.reads.now c.args.wire c.args.gate c.requires.reads l) in
-    let b = scaled_earlier k c.args.wire c.args.gate s (earlier k (valid k c.preset-preset.ensures.valid)) c.requires.here e in
+    let b = scaled_earlier k c.args.wire c.args.gate s (earlier k (valid k c.preset-valid.ensures.valid)) c.requires.here e in
     let p : product_at k s.of ≡ None = sym (c.in-None-product_of.ensures ∙ product_read k c.args.products.now s.of c.requires.products (omega (arith, b, l))) in
     sym (ap (replacing_where k) e ∙ ap (option_map (replacing_by s.of)) p)
 

@@ -1,6 +1,6 @@
 use Rattle.std.proofs.Common.{ap, sym, ◌∙◌, arith, get_or, not, false}
 use Rattle.heco_plainvec.specs.Gathering.{is_read, cell_only}
-use Rattle.heco_plainvec.specs.Finding.{scaled_where, scaled_by_maker}
+use Rattle.heco_plainvec.specs.inside.Finding.{scaled_where, scaled_by_maker}
 use Rattle.heco_plainvec.proofs.Rows.{length-each, made_below, only_at}
 use Rattle.heco_plainvec.proofs.scaled.scaled_at.Goals as goal
 

@@ -8,7 +8,7 @@ use Rattle.heco_products.proofs.CircuitFacts.{short_outputs}
 use Rattle.heco_products.proofs.decrypting.printed.Goals as goal
 
 pub shapes_of-requires : goal.shapes_of-requires
-shapes_of-requires c = subst (All (λ o. length o.cells ≤ 4096)) (sym (c.as_slice-outputs.ensures ∙ c.outputs.ensures)) (short_outputs c.args.circuit.now c.preset.ensures.valid)
+shapes_of-requires c = subst (All (λ o. length o.cells ≤ 4096)) (sym (c.as_slice-outputs.ensures ∙ c.outputs.ensures)) (short_outputs c.args.circuit.now c.preset-valid.ensures.valid)
 
 pub print_outputs-requires : goal.print_outputs-requires
 print_outputs-requires c = ap length c.in_ok-rows.ensures ∙ length-map c.as_slice-outputs.result.now _ ∙ sym (ap length c.in_ok-shapes.ensures ∙ length-map c.as_slice-outputs.result.now _)

@@ -13,14 +13,14 @@ encrypt_inputs-requires-clause-count c =
 
 pub encrypt_inputs-requires-clause-few : goal.encrypt_inputs-requires-clause-few
 encrypt_inputs-requires-clause-few c =
-    omega (arith, ap length c.as_slice.ensures, fit_count c.args.key.now.preset.t c.args.circuit.now.inputs c.args.inputs.now.rows c.requires.fit, few_inputs c.args.circuit.now c.preset.ensures.valid)
+    omega (arith, ap length c.as_slice.ensures, fit_count c.args.key.now.preset.t c.args.circuit.now.inputs c.args.inputs.now.rows c.requires.fit, few_inputs c.args.circuit.now c.preset-valid.ensures.valid)
 
 pub encrypt_inputs-requires-clause-short : goal.encrypt_inputs-requires-clause-short
 encrypt_inputs-requires-clause-short c =
     let p = c.args.key.now.preset in
     let slots : p.slots ≡ slots_of c.args.circuit.now.preset = p.row.3 ∙ ap slots_of c.requires.preset in
     subst (All (λ row. length row ≤ p.slots)) (sym c.as_slice.ensures)
-    (fit_short p.t p.slots c.args.circuit.now.inputs c.args.inputs.now.rows c.requires.fit (subst (λ n. All (λ s. s.len ≤ n) c.args.circuit.now.inputs) (sym slots) (short_inputs c.args.circuit.now c.preset.ensures.valid)))
+    (fit_short p.t p.slots c.args.circuit.now.inputs c.args.inputs.now.rows c.requires.fit (subst (λ n. All (λ s. s.len ≤ n) c.args.circuit.now.inputs) (sym slots) (short_inputs c.args.circuit.now c.preset-valid.ensures.valid)))
 
 pub encrypt_inputs-requires-clause-below : goal.encrypt_inputs-requires-clause-below
 encrypt_inputs-requires-clause-below c =

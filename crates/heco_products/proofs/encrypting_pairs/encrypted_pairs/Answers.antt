@@ -20,15 +20,15 @@ encrypt_pairs-requires-clause-same c =
 
 pub encrypt_pairs-requires-clause-few : goal.encrypt_pairs-requires-clause-few
 encrypt_pairs-requires-clause-few c =
-    omega (arith, ap length c.as_slice.ensures, fit_count c.args.key.now.preset.t c.args.circuit.now.inputs c.args.first.now.rows c.requires.first, few_inputs c.args.circuit.now c.preset.ensures.valid)
+    omega (arith, ap length c.as_slice.ensures, fit_count c.args.key.now.preset.t c.args.circuit.now.inputs c.args.first.now.rows c.requires.first, few_inputs c.args.circuit.now c.preset-valid.ensures.valid)
 
 pub encrypt_pairs-requires-clause-first : goal.encrypt_pairs-requires-clause-first
 encrypt_pairs-requires-clause-first c =
-    subst (All (FitsRow c.args.key.now.preset)) (sym c.as_slice.ensures) (rows_fit c.args.key.now.preset c.args.circuit.now c.args.first.now.rows c.requires.preset c.preset.ensures.valid c.requires.first)
+    subst (All (FitsRow c.args.key.now.preset)) (sym c.as_slice.ensures) (rows_fit c.args.key.now.preset c.args.circuit.now c.args.first.now.rows c.requires.preset c.preset-valid.ensures.valid c.requires.first)
 
 pub encrypt_pairs-requires-clause-second : goal.encrypt_pairs-requires-clause-second
 encrypt_pairs-requires-clause-second c =
-    subst (All (FitsRow c.args.key.now.preset)) (sym c.as_slice-2.ensures) (rows_fit c.args.key.now.preset c.args.circuit.now c.args.second.now.rows c.requires.preset c.preset.ensures.valid c.requires.second)
+    subst (All (FitsRow c.args.key.now.preset)) (sym c.as_slice-2.ensures) (rows_fit c.args.key.now.preset c.args.circuit.now c.args.second.now.rows c.requires.preset c.preset-valid.ensures.valid c.requires.second)
 
 pub returns-clause-formula : goal.returns-clause-formula
 returns-clause-formula c =

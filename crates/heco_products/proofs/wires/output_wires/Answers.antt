@@ -7,7 +7,7 @@ use Rattle.heco_products.proofs.wires.output_wires.Goals as goal
 
 pub overflow_add-count : goal.overflow_add-count
 overflow_add-count c =
-    let valid = c.preset.ensures.valid in
+    let valid = c.preset-valid.ensures.valid in
     omega (arith, c.len.ensures, c.len-2.ensures, ap length c.inputs.ensures, ap length c.gates.ensures, few_inputs c.args.circuit.now valid, few_gates c.args.circuit.now valid)
 
 pub returns-clause-marked : goal.returns-clause-marked
@@ -19,5 +19,5 @@ returns-clause-marked c =
 
 pub returns-clause-few : goal.returns-clause-few
 returns-clause-few c =
-    let valid = c.preset.ensures.valid in
+    let valid = c.preset-valid.ensures.valid in
     omega (arith, ap length (returns-clause-marked c), marked_long c.args.circuit.now, few_inputs c.args.circuit.now valid, few_gates c.args.circuit.now valid)

@@ -1,9 +1,9 @@
-use Rattle.std.proofs.Common.{◌≡◌, ◌^◌, ℕ, List, take, subst}
+use Rattle.std.proofs.Common.{◌^◌, subst}
 use Rattle.std.proofs.lemmas.Result.{err_from_is_err_and}
 use Rattle.heco_circuit.specs.CircuitFile.{Spells}
 use Rattle.heco_reads.specs.CircuitFiles.{IsCircuitRefusal}
 use Rattle.heco_jobs.proofs.StageLaws.{read_failed, read_judged}
-use Rattle.heco_jobs.specs.Stages.{Judges, seen}
+use Rattle.heco_jobs.specs.Stages.{Judges}
 use Rattle.heco_jobs.specs.Words.{texts}
 use Rattle.heco_reads.proofs.CircuitLaws.{judged_circuit}
 use Rattle.heco_reads.proofs.circuit_file.read_circuit.Goals as goal

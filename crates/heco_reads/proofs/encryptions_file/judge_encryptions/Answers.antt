@@ -1,4 +1,4 @@
-use Rattle.std.proofs.Common.{ℕ, List, sym, subst, Ok, Err}
+use Rattle.std.proofs.Common.{sym, subst, Ok, Err}
 use Rattle.heco_material.specs.declared.words.EncWords.{EncWords}
 use Rattle.heco_reads.specs.MaterialFiles.{SpellsEncryptions, IsEncryptionsRefusal}
 use Rattle.heco_jobs.specs.Stages.{Judges}

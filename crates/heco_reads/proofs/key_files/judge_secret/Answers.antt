@@ -1,4 +1,4 @@
-use Rattle.std.proofs.Common.{ℕ, List, sym, subst, Ok, Err}
+use Rattle.std.proofs.Common.{sym, subst, Ok, Err}
 use Rattle.heco_keys.specs.declared.secret.Secret.{Secret}
 use Rattle.heco_reads.specs.KeyFiles.{SpellsSecret, IsSecretRefusal}
 use Rattle.heco_jobs.specs.Stages.{Judges}

@@ -1,4 +1,4 @@
-use Rattle.std.proofs.Common.{◌≡◌, ◌^◌, ℕ, List, take, subst}
+use Rattle.std.proofs.Common.{◌≡◌, take, subst}
 use Rattle.std.proofs.lemmas.Result.{err_from_is_err_and}
 use Rattle.heco_keys.specs.declared.secret.Secret.{Secret}
 use Rattle.heco_reads.specs.KeyFiles.{SpellsSecret, IsSecretRefusal}

@@ -1,10 +1,10 @@
-use Rattle.std.proofs.Common.{◌≡◌, ◌+◌, ℕ, List, take, subst}
+use Rattle.std.proofs.Common.{◌+◌, subst}
 use Rattle.std.proofs.lemmas.Result.{err_from_is_err_and}
 use Rattle.heco_parse.specs.Trees.{source_limit}
 use Rattle.heco_sources.specs.Sources.{IsSource}
 use Rattle.heco_reads.specs.SourceFiles.{IsSourceRefusal}
 use Rattle.heco_jobs.proofs.StageLaws.{read_failed, read_judged}
-use Rattle.heco_jobs.specs.Stages.{Judges, seen}
+use Rattle.heco_jobs.specs.Stages.{Judges}
 use Rattle.heco_jobs.specs.Words.{texts}
 use Rattle.heco_reads.proofs.SourceLaws.{judged_source}
 use Rattle.heco_reads.proofs.source.read_source.Goals as goal

@@ -1,9 +1,9 @@
-use Rattle.std.proofs.Common.{◌≡◌, ◌^◌, ℕ, List, take, subst}
+use Rattle.std.proofs.Common.{subst}
 use Rattle.std.proofs.lemmas.Result.{err_from_is_err_and}
 use Rattle.heco_texts.specs.Answers.{IsRead}
 use Rattle.heco_reads.specs.SourceFiles.{IsTextRefusal}
 use Rattle.heco_jobs.proofs.StageLaws.{read_failed, read_judged}
-use Rattle.heco_jobs.specs.Stages.{Judges, seen}
+use Rattle.heco_jobs.specs.Stages.{Judges}
 use Rattle.heco_jobs.specs.Words.{texts}
 use Rattle.heco_reads.proofs.InputLaws.{judged_values}
 use Rattle.heco_reads.proofs.values_file.read_inputs.Goals as goal

@@ -1,4 +1,3 @@
-use Rattle.std.proofs.Common.{◌∙◌}
 use Rattle.heco_bfv.proofs.PhaseSteps.{decrypted_below}
 use Rattle.heco_rows.proofs.decryption.decrypt_two.Goals as goal
 

@@ -1,5 +1,4 @@
-use Rattle.std.proofs.Common.{◌≡◌, ◌+◌, ℕ, zero, suc, List, [], ◌∷◌, ◌++◌, Some, length, length-append, ◌∙◌, ap}
-use Rattle.std.specs.List.{slice_get}
+use Rattle.std.proofs.Common.{◌≡◌, ◌+◌, ℕ, zero, suc, List, [], ◌∷◌, ◌++◌, length-append, ◌∙◌, ap}
 use Rattle.heco_run_laws.specs.Runs.{Ciphertext}
 use Rattle.heco_run.specs.Shapes.{AreTwoParts, IsShaped}
 use Rattle.heco_run_rows.proofs.given.inputs.Goals as goal

@@ -13,11 +13,11 @@ same_count a b relin turns = ap (λ r. (if r then 1 else 0) + length a.turns) re
 pub returns-clause-kept : goal.returns-clause-kept
 returns-clause-kept c =
     let kept = c.in_ok-k.ensures.kept in
-    keys_for_circuit c.args.circuit.now c.preset_of.result.now c.in_ok-k.k kept.0 c.preset_of.ensures.whole (kept.1 ∙ c.in_ok-needs.ensures.relin) (kept.2 ∙ c.in_ok-needs.ensures.turns)
+    keys_for_circuit c.args.circuit.now c.preset.result.now c.in_ok-k.k kept.0 c.preset.ensures.whole (kept.1 ∙ c.in_ok-needs.ensures.relin) (kept.2 ∙ c.in_ok-needs.ensures.turns)
     (subst (λ (p : Preset). IsKeyMaterial p.n p.h p.b (key_count c.in_ok-k.k.needs) (lists_of c.in_ok-k.k)) (sym kept.0)
-    (subst (λ n. let p = c.preset_of.result.now in IsKeyMaterial p.n p.h p.b n (lists_of c.in_ok-k.k)) (same_count c.in_ok-needs.needs c.in_ok-k.k.needs (sym kept.1) (sym kept.2)) c.in_ok-k.ensures.within))
+    (subst (λ n. let p = c.preset.result.now in IsKeyMaterial p.n p.h p.b n (lists_of c.in_ok-k.k)) (same_count c.in_ok-needs.needs c.in_ok-k.k.needs (sym kept.1) (sym kept.2)) c.in_ok-k.ensures.within))
 
 pub returns-clause-words : goal.returns-clause-words
 returns-clause-words c =
-    keys_are_drawn c.args.circuit.now c.preset_of.result.now c.args.seed c.preset_of.ensures.number (key_count c.in_ok-needs.needs) (lists_of c.in_ok-k.k)
+    keys_are_drawn c.args.circuit.now c.preset.result.now c.args.seed c.preset.ensures.preset (key_count c.in_ok-needs.needs) (lists_of c.in_ok-k.k)
     (count_is c.args.circuit.now c.in_ok-needs.needs c.in_ok-needs.ensures.relin c.in_ok-needs.ensures.turns) c.in_ok-k.ensures.words

@@ -5,13 +5,13 @@ use Rattle.heco_sample.proofs.DrawnMaterial.{words_are_drawn}
 use Rattle.heco_sample.proofs.drawn.words.Goals as goal
 
 pub returns-clause-kept : goal.returns-clause-kept
-returns-clause-kept c = c.in_ok-words.ensures.kept ∙ c.preset_of.ensures.whole
+returns-clause-kept c = c.in_ok-words.ensures.kept ∙ c.preset.ensures.whole
 
 pub returns-clause-words : goal.returns-clause-words
 returns-clause-words c =
-    words_are_drawn c.args.circuit.now c.preset_of.result.now c.args.seed c.preset_of.ensures.number c.input_count.result c.in_ok-words.words.rows c.input_count.ensures c.in_ok-words.ensures.words
+    words_are_drawn c.args.circuit.now c.preset.result.now c.args.seed c.preset.ensures.preset c.input_count.result c.in_ok-words.words.rows c.input_count.ensures c.in_ok-words.ensures.words
 
 pub returns-clause-within : goal.returns-clause-within
 returns-clause-within c =
-    subst (λ (p : Preset). IsEncMaterial p.n p.h p.b (length c.args.circuit.now.inputs) c.in_ok-words.words.rows) c.preset_of.ensures.whole
-    (subst (λ n. let p = c.preset_of.result.now in IsEncMaterial p.n p.h p.b n c.in_ok-words.words.rows) c.input_count.ensures c.in_ok-words.ensures.within)
+    subst (λ (p : Preset). IsEncMaterial p.n p.h p.b (length c.args.circuit.now.inputs) c.in_ok-words.words.rows) c.preset.ensures.whole
+    (subst (λ n. let p = c.preset.result.now in IsEncMaterial p.n p.h p.b n c.in_ok-words.words.rows) c.input_count.ensures c.in_ok-words.ensures.within)

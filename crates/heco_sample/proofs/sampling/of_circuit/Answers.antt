@@ -4,4 +4,4 @@ use Rattle.heco_sample.proofs.Values.{t_is}
 use Rattle.heco_sample.proofs.sampling.of_circuit.Goals as goal
 
 pub values-requires : goal.values-requires
-values-requires g c = ap (λ (p : Preset). p.t) c.preset_of.ensures.whole ∙ t_is c.args.typed.now c.requires.is c.args.circuit.now c.requires.good
+values-requires g c = ap (λ (p : Preset). p.t) c.preset.ensures.whole ∙ t_is c.args.typed.now c.requires.is c.args.circuit.now c.requires.good

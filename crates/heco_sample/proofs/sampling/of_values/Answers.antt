@@ -1,4 +1,4 @@
-use Rattle.std.proofs.Common.{length, sym, ap, subst}
+use Rattle.std.proofs.Common.{length, sym, subst}
 use Rattle.heco_good.specs.Good.{modulus}
 use Rattle.heco_headline.specs.Headline.{IsPlainText}
 use Rattle.heco_jobs.specs.Products.{Prints}

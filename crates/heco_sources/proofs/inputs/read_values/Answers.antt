@@ -10,10 +10,10 @@ use Rattle.heco_sources.proofs.InputLaws.{own_names, few_shapes}
 use Rattle.heco_sources.proofs.inputs.read_values.Goals as goal
 
 pub read_inputs-requires-clause-count : goal.read_inputs-requires-clause-count
-read_inputs-requires-clause-count c = subst (λ shapes. length shapes ≤ 256) (sym c.inputs.ensures.value) (few_shapes false c.args.t.now.ports c.source.ensures.typed.parameters.count)
+read_inputs-requires-clause-count c = subst (λ shapes. length shapes ≤ 256) (sym c.inputs.ensures.value) (few_shapes false c.args.t.now.ports c.source-valid.ensures.typed.parameters.count)
 
 pub read_inputs-requires-clause-names : goal.read_inputs-requires-clause-names
-read_inputs-requires-clause-names c = subst HaveOwnNames (sym c.inputs.ensures.value) (own_names false c.args.t.now.ports c.source.ensures.typed.parameters.distinct)
+read_inputs-requires-clause-names c = subst HaveOwnNames (sym c.inputs.ensures.value) (own_names false c.args.t.now.ports c.source-valid.ensures.typed.parameters.distinct)
 
 pub returns-clause-read : goal.returns-clause-read
 returns-clause-read c =

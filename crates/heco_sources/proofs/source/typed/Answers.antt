@@ -1,4 +1,4 @@
-use Rattle.std.proofs.Common.{◌≡◌, sym, subst}
+use Rattle.std.proofs.Common.{sym, subst}
 use Rattle.heco_sources.specs.Sources.{IsSource}
 use Rattle.heco_sources.proofs.source.typed.Goals as goal
 

@@ -1,20 +1,7 @@
-use Rattle.std.proofs.Common.{◌≡◌, ◌∙◌, ℕ, List, [], ◌∷◌, length, refl, sym, ap, subst, inl, inr, Ok, Err}
+use Rattle.std.proofs.Common.{refl, inl, inr}
 use Rattle.std.proofs.lemmas.Result.{err_from_is_err_and}
 use Rattle.heco_jobs.specs.Words.{texts}
-use Rattle.std.specs.Prelude.{ℤ, Vec}
-use Rattle.std.specs.declared.alloc.Global.{Global}
-use Rattle.heco_ciphertext_files.specs.declared.kind.FileKind.TheVariants.{Res}
-use Rattle.heco_keys.specs.declared.secret.Secret.{Secret}
-use Rattle.heco_nums.specs.declared.preset.Preset.{Preset}
-use Rattle.heco_products.specs.Decrypting.{output_wire_count, outputs_text}
-use Rattle.heco_jobs.specs.Agents.{asking_none}
-use Rattle.heco_jobs.specs.Jobs.{Give}
-use Rattle.heco_jobs.specs.Products.{Prints}
-use Rattle.heco_jobs.specs.Stages.{IsThingRead, IsGathered}
-use Rattle.heco_jobs.specs.declared.outcome.Outcome.TheVariants.{Memory}
-use Rattle.heco_jobs.proofs.ProductLaws.{gives_print}
-use Rattle.heco_jobs.proofs.StageLaws.{gathered_on, gathered_stopped, gathered_decided, given_none, read_unbegun}
-use Rattle.heco_reads.specs.CiphertextFiles.{SpellsCiphertexts, IsCiphertextsRefusal}
+use Rattle.heco_jobs.proofs.StageLaws.{gathered_on, gathered_stopped}
 use Rattle.heco_reads.specs.KeyFiles.{SpellsSecret, IsSecretRefusal}
 use Rattle.heco_tasks.specs.CircuitTasks.{decrypt_plan, secret_job, result_job}
 use Rattle.heco_tasks.proofs.decrypt.gather_secret.Goals as goal

@@ -1,6 +1,5 @@
-use Rattle.std.proofs.Common.{◌≡◌, ◌∙◌, ℕ, List, [], ◌∷◌, length, refl, sym, ap, subst, inl, inr, Ok, Err}
+use Rattle.std.proofs.Common.{refl}
 use Rattle.std.proofs.lemmas.Result.{err_from_is_err_and}
-use Rattle.heco_jobs.specs.Words.{texts}
 use Rattle.heco_jobs.proofs.ProductLaws.{gives_store}
 use Rattle.heco_jobs.proofs.StageLaws.{given_none}
 use Rattle.heco_tasks.specs.DrawnFiles.{key_material_file, encryption_material_file}

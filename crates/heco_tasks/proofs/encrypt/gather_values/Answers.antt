@@ -1,21 +1,17 @@
-use Rattle.std.proofs.Common.{◌≡◌, ◌∙◌, ℕ, List, [], ◌∷◌, length, refl, sym, ap, subst, inl, inr, Ok, Err}
+use Rattle.std.proofs.Common.{[], ◌∷◌, length, refl, sym, subst, inl, inr, Ok, Err}
 use Rattle.std.proofs.lemmas.Result.{err_from_is_err_and}
 use Rattle.heco_jobs.specs.Words.{texts}
-use Rattle.heco_key_files.specs.KeyFiles.{EvalLists, lists_of}
-use Rattle.heco_material.specs.declared.words.EncRow.{EncRow}
-use Rattle.heco_nums.specs.declared.shape.Values.{Values}
+use Rattle.heco_key_files.specs.KeyFiles.{lists_of}
 use Rattle.heco_products.specs.Encrypting.{inputs_file}
 use Rattle.heco_texts.specs.Answers.{IsRead, HaveFit}
 use Rattle.heco_jobs.specs.Agents.{asking_none}
 use Rattle.heco_jobs.specs.Jobs.{Give}
 use Rattle.heco_jobs.specs.Products.{Stores, planned}
-use Rattle.heco_jobs.specs.Stages.{IsThingRead, IsGathered}
+use Rattle.heco_jobs.specs.Stages.{IsThingRead}
 use Rattle.heco_jobs.proofs.ProductLaws.{gives_store}
 use Rattle.heco_jobs.proofs.StageLaws.{gathered_on, gathered_stopped, gathered_decided, given_none}
-use Rattle.heco_reads.specs.KeyFiles.{SpellsEvaluation, IsEvaluationRefusal}
-use Rattle.heco_reads.specs.MaterialFiles.{SpellsEncryptions, IsEncryptionsRefusal}
 use Rattle.heco_reads.specs.SourceFiles.{IsTextRefusal}
-use Rattle.heco_tasks.specs.CircuitTasks.{encrypt_plan, evaluation_job, encryptions_job, inputs_job}
+use Rattle.heco_tasks.specs.CircuitTasks.{encrypt_plan, inputs_job}
 use Rattle.heco_material.specs.KeyLists.{IsEncMaterial}
 use Rattle.heco_nums.specs.declared.preset.Preset.{Preset}
 use Rattle.heco_tasks.proofs.encrypt.gather_values.Goals as goal

@@ -1,16 +1,16 @@
-use Rattle.std.proofs.Common.{◌≡◌, ◌∙◌, ℕ, List, [], ◌∷◌, length, refl, sym, ap, subst, inl, inr, Ok, Err}
+use Rattle.std.proofs.Common.{◌∙◌, length, refl, sym, ap, subst, inl, inr, Ok, Err}
 use Rattle.std.proofs.lemmas.Result.{err_from_is_err_and}
 use Rattle.heco_jobs.specs.Words.{texts}
 use Rattle.std.specs.Prelude.{◌≤◌}
 use Rattle.heco_circuit.specs.Needs.{needed_keys}
 use Rattle.heco_circuit.specs.Plans.{Plan as Circuit}
-use Rattle.heco_material.specs.KeyLists.{KeyLists, lists_of, key_count}
+use Rattle.heco_material.specs.KeyLists.{KeyLists, lists_of}
 use Rattle.heco_nums.specs.declared.preset.Preset.{Preset}
 use Rattle.heco_products.specs.KeyProducts.{secret_file, evaluation_file}
 use Rattle.heco_jobs.specs.Agents.{Agents, asking_none}
 use Rattle.heco_jobs.specs.Jobs.{Job, Give}
 use Rattle.heco_jobs.specs.Products.{Stores}
-use Rattle.heco_jobs.specs.Stages.{IsThingRead, IsGathered, seen}
+use Rattle.heco_jobs.specs.Stages.{IsThingRead}
 use Rattle.heco_jobs.specs.declared.outcome.Outcome.TheVariants.{Memory}
 use Rattle.heco_jobs.proofs.ProductLaws.{gives_store}
 use Rattle.heco_jobs.proofs.StageLaws.{gathered_on, gathered_stopped, gathered_decided, given_none, read_unbegun}

@@ -1,6 +1,5 @@
-use Rattle.std.proofs.Common.{◌≡◌, ◌∙◌, ℕ, List, [], ◌∷◌, length, refl, sym, ap, subst, inl, inr, Ok, Err}
+use Rattle.std.proofs.Common.{refl, Ok}
 use Rattle.std.proofs.lemmas.Result.{err_from_is_err_and}
-use Rattle.heco_jobs.specs.Words.{texts}
 use Rattle.heco_nums.specs.declared.shape.Values.{Values}
 use Rattle.heco_sources.specs.Inputs.{output_shapes}
 use Rattle.heco_texts.specs.Outputs.{output_text}

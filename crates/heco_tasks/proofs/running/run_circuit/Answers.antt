@@ -1,4 +1,4 @@
-use Rattle.std.proofs.Common.{◌≡◌, ◌∙◌, ◌<◌, ◌^◌, refl, ap, subst, sym, length, arith}
+use Rattle.std.proofs.Common.{◌∙◌, ap, subst, sym, length, arith}
 use Rattle.heco_ciphertext_files.specs.CiphertextFiles.{AreCiphertexts}
 use Rattle.heco_key_files.specs.KeyFiles.{lists_of}
 use Rattle.heco_products.specs.Decrypting.{output_wire_count}

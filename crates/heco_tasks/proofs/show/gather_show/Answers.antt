@@ -1,10 +1,9 @@
-use Rattle.std.proofs.Common.{◌≡◌, ◌∙◌, ℕ, List, [], ◌∷◌, length, refl, sym, ap, subst, inl, inr, Ok, Err}
+use Rattle.std.proofs.Common.{refl, inl}
 use Rattle.std.proofs.lemmas.Result.{err_from_is_err_and}
 use Rattle.heco_jobs.specs.Words.{texts}
 use Rattle.heco_circuit.specs.CircuitFile.{Spells}
-use Rattle.heco_circuit.specs.Plans.{Plan as Circuit}
 use Rattle.heco_reads.specs.CircuitFiles.{IsCircuitRefusal}
-use Rattle.heco_tasks.specs.CircuitTasks.{show_plan, show_job, on_circuit, shown_job}
+use Rattle.heco_tasks.specs.CircuitTasks.{show_plan, show_job, shown_job}
 use Rattle.heco_jobs.proofs.StageLaws.{gathered_on, gathered_stopped, gathered_decided}
 use Rattle.heco_tasks.proofs.show.gather_show.Goals as goal
 

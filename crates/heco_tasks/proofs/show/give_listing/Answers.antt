@@ -1,6 +1,5 @@
-use Rattle.std.proofs.Common.{◌≡◌, ◌∙◌, ℕ, List, [], ◌∷◌, length, refl, sym, ap, subst, inl, inr, Ok, Err}
+use Rattle.std.proofs.Common.{refl, subst}
 use Rattle.std.proofs.lemmas.Result.{err_from_is_err_and}
-use Rattle.heco_jobs.specs.Words.{texts}
 use Rattle.heco_listing.specs.Listings.{listing_of}
 use Rattle.heco_jobs.specs.Products.{Prints}
 use Rattle.heco_jobs.proofs.ProductLaws.{gives_print}

@@ -1,5 +1,5 @@
 use Rattle.std.proofs.Common.{◌∙◌, ◌++◌, ◌∷◌, [], sym, ap, length, arith}
-use Rattle.heco_texts.specs.Fronts.{digit_front}
+use Rattle.heco_texts.specs.inside.Fronts.{digit_front}
 use Rattle.heco_texts.specs.Kinds.{without_blanks}
 use Rattle.heco_texts.specs.Numbers.{capped_value, capped_values}
 use Rattle.heco_texts.proofs.NumberLaws.{ahead, next_value, no_values, back_shorter, bare_values, ahead_none}

@@ -1,4 +1,4 @@
-use Rattle.std.proofs.Common.{◌∙◌, sym, ap, arith}
+use Rattle.std.proofs.Common.{◌∙◌, sym, arith}
 use Rattle.heco_texts.proofs.NumberLaws.{begun, one_digit, stopped, ended, back_at, back_end}
 use Rattle.heco_texts.proofs.number.first_number.Goals as goal
 

@@ -1,5 +1,5 @@
 use Rattle.std.proofs.Common.{◌∙◌, sym}
-use Rattle.heco_texts.proofs.LineLaws.{next_line, first_broken, all_read}
+use Rattle.heco_texts.proofs.LineLaws.{next_line}
 use Rattle.heco_texts.proofs.read.given_by.Goals as goal
 
 pub loop-rest-preserved : goal.loop-rest-preserved

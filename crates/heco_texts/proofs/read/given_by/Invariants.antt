@@ -1,5 +1,4 @@
 use Rattle.std.proofs.Common.{length}
-use Rattle.heco_texts.specs.Lines.{lines}
 use Rattle.heco_texts.proofs.LineLaws.{Reached}
 use Rattle.heco_texts.proofs.read.given_by.Given as goal
 

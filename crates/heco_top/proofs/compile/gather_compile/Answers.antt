@@ -1,4 +1,4 @@
-use Rattle.std.proofs.Common.{◌≡◌, refl, inl, inr}
+use Rattle.std.proofs.Common.{refl, inl}
 use Rattle.std.proofs.lemmas.Result.{err_from_is_err_and}
 use Rattle.heco_sources.specs.Sources.{IsSource}
 use Rattle.heco_jobs.proofs.StageLaws.{gathered_on, gathered_stopped, gathered_decided}

@@ -1,4 +1,4 @@
-use Rattle.std.proofs.Common.{◌≡◌, ◌∷◌, [], refl, Ok, Err}
+use Rattle.std.proofs.Common.{◌∷◌, [], refl, Ok}
 use Rattle.std.proofs.lemmas.Result.{err_from_is_err_and}
 use Rattle.heco_circuit.specs.CircuitFormat.{circuit_text}
 use Rattle.heco_good.specs.Accepted.{IsAccepted}

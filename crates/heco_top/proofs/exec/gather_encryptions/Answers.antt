@@ -11,12 +11,12 @@ use Rattle.heco_exec.specs.ExecTask.{exec_plan, encryptions_job, Executes, IsEnc
 use Rattle.heco_top.proofs.exec.gather_encryptions.Goals as goal
 
 pub chain_product-requires-clause-kept : goal.chain_product-requires-clause-kept
-chain_product-requires-clause-kept g c = c.in_ok-material.ensures.kept ∙ c.preset_of-preset.ensures.whole
+chain_product-requires-clause-kept g c = c.in_ok-material.ensures.kept ∙ c.preset-preset.ensures.whole
 
 pub chain_product-requires-clause-runs : goal.chain_product-requires-clause-runs
 chain_product-requires-clause-runs g c =
-    can_run c.args.circuit.now c.args.k.now c.preset_of-preset.result.now c.input_count.result c.in_ok-material.material.rows c.args.values.now.rows
-    c.preset.ensures.valid c.requires.keys c.preset_of-preset.ensures.whole c.input_count.ensures c.in_ok-material.ensures.within c.requires.fit
+    can_run c.args.circuit.now c.args.k.now c.preset-preset.result.now c.input_count.result c.in_ok-material.material.rows c.args.values.now.rows
+    c.preset-preset.ensures.valid c.requires.keys c.preset-preset.ensures.whole c.input_count.ensures c.in_ok-material.ensures.within c.requires.fit
 
 pub returns-in_err-material-clause-gathered : goal.returns-in_err-material-clause-gathered
 unfolding encryptions_job
@@ -26,8 +26,8 @@ returns-in_err-material-clause-gathered g c = λ s handed left of_source.
     rw (p.1, p.2) (gathered_stopped g.S.Store (texts c.args.words.now) exec_plan 4 (IsEncryptionMaterialOf s) (IsNoEncryptionMaterialOf s)
     (λ material. Give (Executes _ s c.args.values.now (lists_of c.args.k.now) material)) _
     c.args.store.now c.read_encryptions.new.store o (inr (inr (inr (inl refl))))
-    (encryptions_judged g.S.Store (texts c.args.words.now) s c.args.circuit.now of_source.good c.preset_of-preset.result.now c.args.store.now c.read_encryptions.new.store 4 c.input_count.result (Err o)
-    c.preset_of-preset.ensures.whole c.input_count.ensures c.in_err-material.ensures.read))
+    (encryptions_judged g.S.Store (texts c.args.words.now) s c.args.circuit.now of_source.good c.preset-preset.result.now c.args.store.now c.read_encryptions.new.store 4 c.input_count.result (Err o)
+    c.preset-preset.ensures.whole c.input_count.ensures c.in_err-material.ensures.read))
 
 pub returns-in_err-product-clause-gathered : goal.returns-in_err-product-clause-gathered
 unfolding encryptions_job
@@ -37,8 +37,8 @@ returns-in_err-product-clause-gathered g c = λ s handed left of_source.
     rw (p.1, p.2) (gathered_on g.S.Store (texts c.args.words.now) exec_plan 4 (IsEncryptionMaterialOf s) (IsNoEncryptionMaterialOf s)
     (λ material. Give (Executes _ s c.args.values.now (lists_of c.args.k.now) material)) _
     c.args.store.now c.read_encryptions.new.store c.read_encryptions.new.store rows _
-    (encryptions_judged g.S.Store (texts c.args.words.now) s c.args.circuit.now of_source.good c.preset_of-preset.result.now c.args.store.now c.read_encryptions.new.store 4 c.input_count.result (Ok rows)
-    c.preset_of-preset.ensures.whole c.input_count.ensures c.in_ok-material.ensures.read)
+    (encryptions_judged g.S.Store (texts c.args.words.now) s c.args.circuit.now of_source.good c.preset-preset.result.now c.args.store.now c.read_encryptions.new.store 4 c.input_count.result (Ok rows)
+    c.preset-preset.ensures.whole c.input_count.ensures c.in_ok-material.ensures.read)
     (gathered_decided g.S.Store (texts c.args.words.now) exec_plan _ _ c.read_encryptions.new.store _ (given_none exec_plan _ _)))
 
 pub returns-clause-gathered : goal.returns-clause-gathered
@@ -51,9 +51,9 @@ returns-clause-gathered g c = λ s handed left of_source.
     gathered_on g.S.Store (texts c.args.words.now) exec_plan 4 (IsEncryptionMaterialOf s) (IsNoEncryptionMaterialOf s)
     (λ material. Give (Executes _ s v k material)) _
     c.args.store.now c.read_encryptions.new.store c.read_encryptions.new.store rows (Ok product)
-    (encryptions_judged g.S.Store (texts c.args.words.now) s c.args.circuit.now of_source.good c.preset_of-preset.result.now c.args.store.now c.read_encryptions.new.store 4 c.input_count.result (Ok rows)
-    c.preset_of-preset.ensures.whole c.input_count.ensures c.in_ok-material.ensures.read)
+    (encryptions_judged g.S.Store (texts c.args.words.now) s c.args.circuit.now of_source.good c.preset-preset.result.now c.args.store.now c.read_encryptions.new.store 4 c.input_count.result (Ok rows)
+    c.preset-preset.ensures.whole c.input_count.ensures c.in_ok-material.ensures.read)
     (gathered_decided g.S.Store (texts c.args.words.now) exec_plan _ _ c.read_encryptions.new.store (Ok product)
     (given exec_plan (Executes _ s v k rows) _ (Ok product) (λ p h. fits_exec h.circuit k rows v.rows p h.yields)
-    (executes _ _ s c.args.circuit.now v k rows product of_source (can_run c.args.circuit.now c.args.k.now c.preset_of-preset.result.now c.input_count.result c.in_ok-material.material.rows c.args.values.now.rows c.preset.ensures.valid c.requires.keys c.preset_of-preset.ensures.whole c.input_count.ensures c.in_ok-material.ensures.within c.requires.fit)
+    (executes _ _ s c.args.circuit.now v k rows product of_source (can_run c.args.circuit.now c.args.k.now c.preset-preset.result.now c.input_count.result c.in_ok-material.material.rows c.args.values.now.rows c.preset-preset.ensures.valid c.requires.keys c.preset-preset.ensures.whole c.input_count.ensures c.in_ok-material.ensures.within c.requires.fit)
     c.in_ok-product.ensures.yields c.in_ok-product.ensures.leads)))

@@ -12,8 +12,8 @@ use Rattle.heco_top.proofs.exec.gather_inputs.Goals as goal
 pub gather_keys-requires : goal.gather_keys-requires
 gather_keys-requires g c =
     let v = c.in_ok-values.values in
-    subst (λ q. HaveFit q.t c.args.circuit.now.inputs v.rows) c.preset_of-preset.ensures.whole
-    (subst (λ shapes. HaveFit c.preset_of-preset.result.now.t shapes v.rows) c.inputs_of.ensures.inputs c.in_ok-values.ensures.fit)
+    subst (λ q. HaveFit q.t c.args.circuit.now.inputs v.rows) c.preset-preset.ensures.whole
+    (subst (λ shapes. HaveFit c.preset-preset.result.now.t shapes v.rows) c.inputs_of.ensures.inputs c.in_ok-values.ensures.fit)
 
 pub returns-in_err-values-clause-gathered : goal.returns-in_err-values-clause-gathered
 unfolding inputs_job
@@ -22,8 +22,8 @@ returns-in_err-values-clause-gathered g c = λ s handed left of_source.
     let p = err_from_is_err_and c.from_residual.result c.from_residual.ensures.1 in
     rw (p.1, p.2) (gathered_stopped g.S.Store (texts c.args.words.now) exec_plan 2 (IsInput s) (IsValuesRefusal s) (keys_job _ s) _
     c.args.store.now c.read_inputs.new.store o (inr (inl refl))
-    (inputs_judged g.S.Store (texts c.args.words.now) s c.args.circuit.now of_source.good c.preset_of-preset.result.now c.args.store.now c.read_inputs.new.store 2 IsTextRefusal c.inputs_of.result.now (Err o)
-    c.preset_of-preset.ensures.number c.inputs_of.ensures.inputs c.in_err-values.ensures.read))
+    (inputs_judged g.S.Store (texts c.args.words.now) s c.args.circuit.now of_source.good c.preset-preset.result.now c.args.store.now c.read_inputs.new.store 2 IsTextRefusal c.inputs_of.result.now (Err o)
+    c.preset-preset.ensures.preset c.inputs_of.ensures.inputs c.in_err-values.ensures.read))
 
 pub returns-clause-gathered : goal.returns-clause-gathered
 unfolding inputs_job
@@ -31,6 +31,6 @@ returns-clause-gathered g c = λ s handed left of_source.
     let v = c.in_ok-values.values in
     gathered_on g.S.Store (texts c.args.words.now) exec_plan 2 (IsInput s) (IsValuesRefusal s) (keys_job _ s) _
     c.args.store.now c.read_inputs.new.store c.gather_keys.new.store v c.gather_keys.result
-    (inputs_judged g.S.Store (texts c.args.words.now) s c.args.circuit.now of_source.good c.preset_of-preset.result.now c.args.store.now c.read_inputs.new.store 2 IsTextRefusal c.inputs_of.result.now (Ok v)
-    c.preset_of-preset.ensures.number c.inputs_of.ensures.inputs c.in_ok-values.ensures.read)
+    (inputs_judged g.S.Store (texts c.args.words.now) s c.args.circuit.now of_source.good c.preset-preset.result.now c.args.store.now c.read_inputs.new.store 2 IsTextRefusal c.inputs_of.result.now (Ok v)
+    c.preset-preset.ensures.preset c.inputs_of.ensures.inputs c.in_ok-values.ensures.read)
     (c.gather_keys.ensures.gathered s handed left of_source)

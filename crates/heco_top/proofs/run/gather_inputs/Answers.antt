@@ -1,9 +1,8 @@
-use Rattle.std.proofs.Common.{◌∷◌, [], length, List, ℕ, refl, subst, inl, inr, Ok, Err}
+use Rattle.std.proofs.Common.{◌∷◌, [], length, refl, subst, inl, inr, Ok, Err}
 use Rattle.std.proofs.lemmas.Result.{err_from_is_err_and}
 use Rattle.heco_ciphertext_files.specs.CiphertextFiles.{AreCiphertexts}
 use Rattle.heco_ciphertext_files.specs.declared.kind.FileKind.TheVariants.{Cts}
 use Rattle.heco_key_files.specs.KeyFiles.{lists_of}
-use Rattle.heco_nums.specs.declared.preset.Preset.{Preset}
 use Rattle.heco_products.specs.Results.{results_file}
 use Rattle.heco_jobs.specs.Agents.{agents, picking}
 use Rattle.heco_jobs.specs.Jobs.{Give}

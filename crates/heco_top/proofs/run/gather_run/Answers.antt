@@ -1,7 +1,7 @@
 use Rattle.std.proofs.Common.{subst, inl, refl}
 use Rattle.std.proofs.lemmas.Result.{err_from_is_err_and}
 use Rattle.heco_circuit.specs.CircuitFile.{Spells}
-use Rattle.heco_products.specs.PresetRows.{preset_of}
+use Rattle.heco_nums.specs.PresetRows.{preset_of}
 use Rattle.heco_jobs.specs.Agents.{agents, picking}
 use Rattle.heco_jobs.specs.Stages.{IsGathered}
 use Rattle.heco_jobs.specs.Words.{texts}
@@ -35,4 +35,4 @@ returns-clause-gathered g c = λ passes.
     gathered_on g.S.Store (texts c.args.words.now) run_plan 1 Spells (IsCircuitRefusal 1) (λ c. run_key_job from (preset_of c.preset) c) to
     c.args.store.now c.read_circuit.new.store c.gather_key.new.store c.in_ok-circuit.circuit c.gather_key.result c.in_ok-circuit.ensures
     (subst (λ q. IsGathered g.S.Store (texts c.args.words.now) run_plan (run_key_job from q c.in_ok-circuit.circuit) to c.read_circuit.new.store c.gather_key.new.store c.gather_key.result)
-    c.preset_of.ensures.whole (c.gather_key.ensures.gathered passes))
+    c.preset.ensures.whole (c.gather_key.ensures.gathered passes))

@@ -1,4 +1,3 @@
-use Rattle.std.proofs.Common.{refl}
 use Rattle.std.proofs.lemmas.Result.{err_from_is_err_and}
 use Rattle.heco_key_files.specs.KeyFiles.{lists_of}
 use Rattle.heco_jobs.specs.Agents.{agents, picking}

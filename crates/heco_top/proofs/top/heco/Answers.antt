@@ -1,6 +1,5 @@
 use Rattle.heco_jobs.specs.Outsides.{outside}
 use Rattle.heco_jobs.specs.Words.{texts}
-use Rattle.std.proofs.Common.{ℕ, List, [], ◌∷◌}
 use Rattle.heco_top.specs.Commands.{command_of}
 use Rattle.heco_top.proofs.ExecLaws.{done_executed, words_apart, ok_is_silent}
 use Rattle.heco_top.proofs.MeasureLaws.{done_measured, done_within}

@@ -1,4 +1,4 @@
-use Rattle.std.proofs.Common.{ℕ, List, [], subst}
+use Rattle.std.proofs.Common.{subst}
 use Rattle.heco_jobs.specs.Plans.{IsFinishCause}
 use Rattle.heco_top.specs.Commands.{plan_of}
 use Rattle.heco_top.proofs.RunLaws.{gathered_cause, finished_cause, finished_untouched}

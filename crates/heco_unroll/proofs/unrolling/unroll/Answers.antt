@@ -27,7 +27,7 @@ returns c =
     let terms : element_terms (modulus_named c.args.t.now.params.text) c.args.t.now ≡ Ok (root_terms c.in_ok-ir.ir.0 c.in_ok-ir.ir.1) =
     rw (t, c.source.ensures.value) at c.in_ok-ir.ensures.terms in
     let count : length c.in_ok-ir.ir.1 ≡ element_count c.args.t.now = counted (modulus_named c.args.t.now.params.text) c.args.t.now c.in_ok-ir.ir.0 c.in_ok-ir.ir.1 c.source.ensures.typed terms in
-    let most : element_count c.args.t.now ≤ 1048576 = few_elements c.args.t.now c.source.ensures.typed (rw c.outputs.ensures.value at c.outputs.ensures.lengths) in
+    let most : element_count c.args.t.now ≤ 1048576 = few_elements c.args.t.now c.source.ensures.typed (rw c.outputs-valid.ensures.value at c.outputs-valid.ensures.lengths) in
     let below : AllElementsBelow (length (shapes_of false c.args.t.now.ports)) c.in_ok-ir.ir.0 = rw (c.as_slice.ensures, c.inputs.ensures.value) at c.in_ok-ir.ensures.elements in
     let few : length (shapes_of false c.args.t.now.ports) ≤ length c.args.t.now.ports = few_shapes false c.args.t.now.ports in
     let ports : length c.args.t.now.ports ≤ 256 = c.source.ensures.typed.parameters.count in

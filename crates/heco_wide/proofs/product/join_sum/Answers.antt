@@ -3,7 +3,7 @@ use lib.IntN.{ℤ, pos, ◌+ℤ◌, ◌*ℤ◌}
 use lib.ListN.{drop}
 use Rattle.heco_wide.proofs.Changes.{front}
 use Rattle.heco_transform.proofs.WholeNumbers.{at_is}
-use Rattle.heco_wide.specs.Wide.{int_at}
+use Rattle.heco_wide.specs.inside.Wide.{int_at}
 use Rattle.heco_wide.proofs.product.join_sum.Goals as goal
 
 pub returns-clause-value : goal.returns-clause-value

@@ -1,6 +1,6 @@
 use Rattle.std.proofs.Common.{◌^◌}
 use lib.IntN.{pos, ◌+ℤ◌, ◌*ℤ◌}
-use Rattle.heco_wide.specs.Wide.{int_at}
+use Rattle.heco_wide.specs.inside.Wide.{int_at}
 use Rattle.heco_wide.proofs.Changes.{Changed}
 use Rattle.heco_wide.proofs.wide.join_all.Given as goal
 

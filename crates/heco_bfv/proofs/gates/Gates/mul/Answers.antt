@@ -21,8 +21,8 @@ returns-in-Some-clause-noise c = λ s m l E F hs hE hF x y.
     let A = seen p.n c.args.a.now c.a.inside.first c.a.inside.second c.a.inside.third c.a.view_is c.requires.a in
     let B = seen p.n c.args.b.now c.b.inside.first c.b.inside.second c.b.inside.third c.b.view_is c.requires.b in
     rw (returns-in-Some-clause-formula c) (multiplied_noise p s c.args.a.now c.args.b.now m l E F hs
-    (two_parts p.n c.args.a.now c.a.inside.first c.a.inside.second c.a.inside.third A c.requires.a_two c.as_slice.ensures.below c.as_slice-2.ensures.below)
-    (two_parts p.n c.args.b.now c.b.inside.first c.b.inside.second c.b.inside.third B c.requires.b_two c.as_slice-3.ensures.below c.as_slice-4.ensures.below) hE hF x y)
+    (two_parts p.n c.args.a.now c.a.inside.first c.a.inside.second c.a.inside.third A c.requires.a_two c.as_slice-valid.ensures.below c.as_slice-valid-2.ensures.below)
+    (two_parts p.n c.args.b.now c.b.inside.first c.b.inside.second c.b.inside.third B c.requires.b_two c.as_slice-valid-3.ensures.below c.as_slice-valid-4.ensures.below) hE hF x y)
 
 pub returns-in-Some-clause-ciphertext : goal.returns-in-Some-clause-ciphertext
 returns-in-Some-clause-ciphertext c = rw (returns-in-Some-clause-formula c) (multiplied_ciphertext c.args.self.now.preset c.args.a.now c.args.b.now)

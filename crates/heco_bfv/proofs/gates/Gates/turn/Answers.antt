@@ -3,7 +3,7 @@ use lib.IntN.{ℤ}
 use Rattle.heco_nums.specs.declared.preset.Preset.{Preset}
 use Rattle.heco_ring.specs.Ring.{wholes, times, turn, sum_lists}
 use Rattle.heco_ring.specs.Remainders.{reduced}
-use Rattle.heco_scheme.specs.Keys.{row, turned as turned_secret}
+use Rattle.heco_scheme.specs.Keys.{row, turned_secret}
 use Rattle.heco_scheme.specs.Ciphertexts.{part}
 use Rattle.heco_scheme.specs.Gates.{turned, switched, digits}
 use Rattle.heco_scheme.proofs.SwitchedNoise.{turned_noise}

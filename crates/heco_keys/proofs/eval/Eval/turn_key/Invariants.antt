@@ -1,4 +1,4 @@
-use Rattle.std.proofs.Common.{◌≡◌, ℕ, ◌<◌, ◌≢◌}
+use Rattle.std.proofs.Common.{ℕ, ◌<◌, ◌≢◌}
 use Rattle.std.specs.Prelude.{slice_index}
 use Rattle.heco_keys.proofs.eval.Eval.turn_key.Given as goal
 

@@ -1,9 +1,0 @@
-use Rattle.std.proofs.Common.{◌≤◌, take, length}
-use Rattle.heco_ir.specs.Values.{numbers}
-use Rattle.heco_ir.specs.Unrolled.{root_terms}
-use Rattle.heco_batch.specs.Roots.{RootsAre, written_homes}
-use Rattle.heco_batch.proofs.batching.roots_of.Given as goal
-
-abbrev pub invariant-loop-root : goal.invariant-loop-root
-invariant-loop-root l =
-    RootsAre l.c l.slots l.modulus l.roots l.homes (written_homes l.modulus l.slots (root_terms l.ir.0 (numbers (take l.root-index l.root-items)))) × (length l.roots ≤ l.root-index)

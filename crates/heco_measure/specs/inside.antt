@@ -1,0 +1,2 @@
+pub mod Plaintexts
+pub mod Stores
