@@ -1,7 +1,7 @@
 use Rattle.std.proofs.Common.{◌≡◌}
 use Rattle.heco_eval.specs.Typed.{modulus_named}
 use Rattle.heco_unroll.proofs.Shapes.{modulus_is}
-use Rattle.heco_unrolled_sources.proofs.batched.unrolled_and_batched.Goals as goal
+use Rattle.heco_unrolled_rows.proofs.batched.unrolled_and_batched.Goals as goal
 
 pub batch-requires : goal.batch-requires
 batch-requires c =
