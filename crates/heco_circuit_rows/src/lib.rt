@@ -15,4 +15,4 @@ mod named;
 #[cfg(test)]
 mod told;
 
-pub use named::{circuit_in, file_in, shown, wanted};
+pub use named::{DOT_OF_EIGHT, circuit_in, file_in, shown, wanted};

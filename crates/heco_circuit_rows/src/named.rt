@@ -3,6 +3,10 @@ use heco_listing::listing;
 use std::alloc::Global;
 use std::test::Fail;
 
+/// The file of the dot product of eight, in hex.
+pub const DOT_OF_EIGHT: &str =
+    "4843495201010002000000016100080000000162000800000008040000000000000001050000000208000100000003020000000300000004080002000000050200000005000000060800040000000702000000070000000800010000000173000101000000090000";
+
 /// The file of that name, where each line of `files` is a name and the bytes of a file in hex.
 pub fn file_in(alloc: Global, files: &str, name: &str) -> Result<Vec<u8>, Fail> {
     for line in files.lines() {

@@ -1,11 +1,8 @@
+use heco_circuit_rows::DOT_OF_EIGHT;
 use heco_nums::List;
 use heco_outside::{MemSink, MemStore};
 use std::alloc::{AllocError, Global};
 use std::test::Fail;
-
-// The circuit of the dot product of eight.
-const DOT: &str =
-    "4843495201010002000000016100080000000162000800000008040000000000000001050000000208000100000003020000000300000004080002000000050200000005000000060800040000000702000000070000000800010000000173000101000000090000";
 
 // The circuit that copies one number.
 const COPY: &str = "4843495201010001000000017800010000000000010000000179000101000000000000";
@@ -35,11 +32,11 @@ fn put(alloc: Global, store: &mut MemStore, name: &str, hexadecimal: &str) -> Re
 /// A store with circuits, whose call of that number fails, none for 0.
 pub fn circuits(alloc: Global, fails: u64) -> Result<MemStore, Fail> {
     let mut store = MemStore::new(alloc, calls(alloc, fails)?);
-    put(alloc, &mut store, "dot", DOT)?;
+    put(alloc, &mut store, "dot", DOT_OF_EIGHT)?;
     put(alloc, &mut store, "copy", COPY)?;
     put(alloc, &mut store, "7", COPY)?;
     put(alloc, &mut store, "five", FIVE)?;
-    put(alloc, &mut store, "cut", DOT.split_at(206).0)?;
+    put(alloc, &mut store, "cut", DOT_OF_EIGHT.split_at(206).0)?;
     Ok(store)
 }
 

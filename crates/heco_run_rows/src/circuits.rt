@@ -1,6 +1,4 @@
-// The dot product of eight.
-const DOT: &str =
-    "4843495201010002000000016100080000000162000800000008040000000000000001050000000208000100000003020000000300000004080002000000050200000005000000060800040000000702000000070000000800010000000173000101000000090000";
+use heco_circuit_rows::DOT_OF_EIGHT;
 
 // Four scalars, and the sum of two products of them, relinearised.
 const SUM_OF_PRODUCTS: &str =
@@ -26,7 +24,7 @@ const WEIGHED_PRODUCT: &str =
 /// The file of eight slots that a row names, in hex.
 pub fn file_named(name: &str) -> &'static str {
     match name {
-        "dot" => DOT,
+        "dot" => DOT_OF_EIGHT,
         "sum" => SUM_OF_PRODUCTS,
         "weighed" => WEIGHED,
         "weighed product" => WEIGHED_PRODUCT,

@@ -1,11 +1,8 @@
 use crate::events::{board_of, circuit_of, event_of};
+use heco_circuit_rows::DOT_OF_EIGHT;
 use heco_sched::{Board, Event};
 use std::alloc::Global;
 use std::test::Fail;
-
-// The file of the dot product of eight.
-const DOT: &str =
-    "4843495201010002000000016100080000000162000800000008040000000000000001050000000208000100000003020000000300000004080002000000050200000005000000060800040000000702000000070000000800010000000173000101000000090000";
 
 // Events on its board in order, with the answer to each.
 const EVENTS: &str = "claim 0 0|done
@@ -57,7 +54,7 @@ fn first_other(alloc: Global, board: &mut Board) -> Result<Option<&'static str>,
 
 // How many events are legal on the new board, and the first row that is answered otherwise.
 fn found(alloc: Global) -> Result<(u32, Option<&'static str>), Fail> {
-    let mut board = board_of(alloc, DOT)?;
+    let mut board = board_of(alloc, DOT_OF_EIGHT)?;
     let legal = board.legal();
     Ok((legal, first_other(alloc, &mut board)?))
 }
